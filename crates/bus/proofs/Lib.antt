@@ -1,0 +1,3 @@
+pub mod Settled
+pub mod WindowMeaning
+pub mod I2cMeaning

@@ -1,0 +1,5 @@
+pub mod Chips
+pub mod Checks
+pub mod Meaning
+pub mod Windows
+pub mod I2cs

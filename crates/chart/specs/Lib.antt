@@ -1,0 +1,4 @@
+pub mod Rules
+pub mod Charts
+pub mod Replies
+pub mod Patch

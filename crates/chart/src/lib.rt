@@ -1,0 +1,4 @@
+pub mod charts;
+pub mod class;
+pub mod patch;
+pub mod refusal;

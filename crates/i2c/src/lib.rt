@@ -1,0 +1,3 @@
+pub mod i2c;
+pub mod line;
+pub mod marks;

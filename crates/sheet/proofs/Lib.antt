@@ -1,0 +1,5 @@
+mod Cutting
+mod Digiting
+mod Listing
+mod Drafting
+mod Reading

@@ -1,0 +1,4 @@
+pub mod Cut
+pub mod Numeral
+pub mod Said
+pub mod Sheets

@@ -1,0 +1,79 @@
+// Performs a bench sheet on a simulated chip, and writes down what each call answered and what passed on the wire.
+pub mod text;
+
+use bus::bus::Bus;
+use chart::charts::Head;
+use chart::charts::HeadChart;
+use chart::charts::Valve;
+use chart::charts::ValveChart;
+use chart::class::Chart;
+use chip::memory;
+use i2c::i2c::I2c;
+use i2c::i2c::I2cBus;
+use perform::answer::perform_all;
+use perform::watch::I2cWatched;
+use perform::watch::Watched;
+use perform::watch::WindowWatched;
+use sheet::Call;
+use sheet::ChartName;
+use sheet::Make;
+use sheet::Sheet;
+use std::alloc::AllocError;
+use std::alloc::Global;
+use text::unmade;
+use text::written;
+use window::window::Window;
+use window::window::WindowBus;
+use wire::trace::Trace;
+
+// The most events that a call makes on the wire.
+fn room_of(call: &Call) -> usize {
+    match call {
+        Call::Get { .. } => 8,
+        // a start, an address, a raw address, two bytes a word, and a stop
+        Call::Put { words, .. } => 4 + 2 * words.len().min(16),
+        _ => 0,
+    }
+}
+
+fn room(calls: &[Call]) -> usize {
+    let mut all: usize = 0;
+    for call in calls {
+        all = all.saturating_add(room_of(call));
+    }
+    all
+}
+
+fn play<B: Bus + Watched>(heap: Global, mut bus: B, calls: &[Call]) -> Result<String, AllocError>
+where
+    B: Drop,
+{
+    let outcomes = perform_all(heap, &mut bus, calls)?;
+    written(heap, &bus, calls, outcomes.as_slice())
+}
+
+fn play_i2c<C: Chart>(heap: Global, address: u16, sheet: &Sheet) -> Result<String, AllocError> {
+    let trace = Trace::new(heap, room(sheet.calls.as_slice()))?;
+    match I2c::<C>::new(address, sheet.marks.as_slice(), trace) {
+        Ok(bus) => play(heap, bus, sheet.calls.as_slice()),
+        Err(unaddressed) => unmade(heap, unaddressed.refusal),
+    }
+}
+
+fn play_window<C: Chart>(heap: Global, sheet: &Sheet) -> Result<String, AllocError> {
+    let mut words = [0; memory::WORDS];
+    match Window::<C>::new(&mut words) {
+        Ok(bus) => play(heap, bus, sheet.calls.as_slice()),
+        Err(unfit) => unmade(heap, unfit.refusal),
+    }
+}
+
+// The transcript of a whole sheet.
+pub fn transcript(heap: Global, sheet: &Sheet) -> Result<String, AllocError> {
+    match (sheet.make, sheet.chart) {
+        (Make::I2c(address), ChartName::Head) => play_i2c::<Head>(heap, address, sheet),
+        (Make::I2c(address), ChartName::Valve) => play_i2c::<Valve>(heap, address, sheet),
+        (Make::Window, ChartName::Head) => play_window::<Head>(heap, sheet),
+        (Make::Window, ChartName::Valve) => play_window::<Valve>(heap, sheet),
+    }
+}

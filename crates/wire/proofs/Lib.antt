@@ -1,0 +1,5 @@
+pub mod Sending
+pub mod Passing
+pub mod Fetching
+pub mod Recovering
+pub mod Effects

@@ -1,0 +1,4 @@
+pub mod event;
+pub mod target;
+pub mod trace;
+pub mod wire;
