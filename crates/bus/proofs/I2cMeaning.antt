@@ -1,24 +1,24 @@
 -- The I2C bus has the meaning of a bus. Assumes nothing.
 use Prim.Native.Nat.{ℕ, _+_, _-_, _*_, _/_, _<_, _≤_}
-use mathlib.Core.Path.{_≡_, refl, sym, ap, ap₂, _∙_}
+use mathlib.Core.Path.{_≡_, refl, ap, ap₂, _∙_}
 use mathlib.Core.Bool.{Bool, true, false, cond}
 use mathlib.Core.List.{List, [], _∷_}
-use mathlib.Core.Logic.{_⊎_, inl, inr, ⊎-elim}
+use mathlib.Core.Logic.{inl, inr, ⊎-elim}
 use native.Mathlib.Omega.{arith}
 use lib.Dec.{lit<}
 use lib.ListN.{length, take}
-use Rattle.std.specs.declared.option.Option.the-variants.{Some, None}
+use Rattle.std.specs.declared.option.Option.the-variants.{None}
 use Rattle.std.proofs.shelf.Lists.{take-all, getD-take, getD-past, length-take}
 use Rattle.std.proofs.shelf.Tests.{cases-bool, cases-lt}
 use Rattle.std.proofs.shelf.Ways.{tells}
 use Rattle.chart.specs.declared.class.Class.{Class}
 use Rattle.chart.specs.Replies.{Reply, accepted, refused}
 use Rattle.chart.specs.Rules.{ChartRules}
-use Rattle.chip.specs.Words.{loaded, rising, all-stored, Fit, WordsSound}
+use Rattle.chip.specs.Words.{loaded, rising, all-stored, Fit}
 use Rattle.chip.proofs.Soundness.{burst-sound, fresh-page, fresh-sound}
-use Rattle.wire.specs.Frames.{Wired, carried, good, put-frame, get-frame, whole}
+use Rattle.wire.specs.Frames.{good, whole}
 use Rattle.wire.proofs.Effects.{put-words, get-words}
-use Rattle.bus.specs.Chips.{Chip, with-words, failed-with}
+use Rattle.bus.specs.Chips.{Chip}
 use Rattle.bus.specs.Checks.{get-check, put-check, measure-check}
 use Rattle.bus.specs.Meaning.{BusMeaning, Got, Put}
 use Rattle.bus.specs.I2cs.{I2cModel, first-mark, get-sent, put-sent, put-cause, get-cause, i2c-steps, i2c-chip, I2cSound, I2cNew}

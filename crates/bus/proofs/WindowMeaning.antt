@@ -1,12 +1,12 @@
 -- The window bus has the meaning of a bus. Assumes nothing.
 use Prim.Native.Nat.{ℕ}
-use mathlib.Core.Path.{_≡_, refl, ap}
+use mathlib.Core.Path.{refl, ap}
 use mathlib.Core.Bool.{false}
 use mathlib.Core.Logic.{inl}
 use lib.ListN.{length}
 use Rattle.chart.specs.declared.class.Class.{Class}
 use Rattle.chart.specs.Rules.{ChartRules}
-use Rattle.chip.specs.Words.{fresh, WordsSound}
+use Rattle.chip.specs.Words.{fresh}
 use Rattle.chip.proofs.Soundness.{burst-sound, fresh-page, fresh-sound}
 use Rattle.bus.specs.Checks.{get-check, put-check, measure-check}
 use Rattle.bus.specs.Meaning.{BusMeaning}

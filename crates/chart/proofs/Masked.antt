@@ -1,10 +1,10 @@
 -- What a patch does to a word bit by bit, and so that a joined patch does what its two parts do. Assumes nothing.
-use mathlib.Core.Path.{_≡_, refl, sym, _∙_, ap₂}
+use mathlib.Core.Path.{_≡_, refl, sym, _∙_}
 use mathlib.Core.Logic.{inl, inr}
 use Prim.Native.Nat.{ℕ, _-_, _^_, _<_, min, max}
 use native.Mathlib.Omega.{arith}
-use lib.Bits.{bitAnd, bitOr, and-le-r, or-lt, and-mask, and-zero-r, or-zero-r, or-add-and}
-use Rattle.chart.specs.Patch.{bit, acted, joined, patchOf, ActsByBits, JoinActs, JoinExample}
+use lib.Bits.{bitAnd, bitOr, and-le-r, or-lt}
+use Rattle.chart.specs.Patch.{bit, acted, joined, ActsByBits, JoinActs, JoinExample}
 use Rattle.chart.specs.declared.patch.Patch.{Patch}
 use Rattle.chart.proofs.Bitwise.{bit-cases, and-bit, or-bit, not-bit, same-bits}
 
@@ -43,20 +43,6 @@ module _ (p later : Patch) (hp : p .mask < 2 ^ 16) (hl : later .mask < 2 ^ 16) w
   pub join-acts : JoinActs p later (joined p later)
   join-acts word hw =
       same-bits 16 _ _ (acted-fits (joined p later) word joined-fits) (acted-fits later (acted p word) hl) (join-bit word)
-
--- an empty mask leaves the word
-pub acted-idle : (p : Patch) (word : ℕ) → p .mask ≡ 0 → word < 2 ^ 16 → acted p word ≡ word
-acted-idle p word e h = rw (e, and-zero-r, or-zero-r) (omega (arith, and-mask word 16))
-
--- a full mask replaces the word
-pub acted-full : (p : Patch) (word : ℕ) → p .mask ≡ 65535 → p .bits < 2 ^ 16 → acted p word ≡ p .bits
-acted-full p word e h = rw (e, and-zero-r) (omega (arith, and-mask (p .bits) 16))
-
--- under a full later patch nothing of the earlier one is left
-pub joined-full : (p later : Patch) → p .mask < 2 ^ 16 → later .mask ≡ 65535 → later .bits < 2 ^ 16 → joined p later ≡ later
-joined-full p later hp e h =
-    let m : bitOr (p .mask) 65535 ≡ 65535 = omega (arith, or-add-and (p .mask) 65535, and-mask (p .mask) 16) in
-    ap₂ patchOf (rw (e, m)) (acted-full later (p .bits) e h)
 
 pub join-example : JoinExample
 join-example = (refl, refl)

@@ -2,7 +2,7 @@
 use mathlib.Core.Path.{_≡_}
 use Prim.Native.Nat.{ℕ, _≤_, _<_, _^_}
 use Rattle.chart.specs.declared.class.Class.{Class}
-use Rattle.chart.specs.declared.class.Class.the-variants.{Absent, Setting, Live}
+use Rattle.chart.specs.declared.class.Class.the-variants.{Absent, Live}
 
 pub record ChartRules (count : ℕ) (class : ℕ → Class) (reset : ℕ → ℕ) : Type 0 where
   pub some : 1 ≤ count

@@ -1,7 +1,7 @@
 -- Whatever is stored, a chip's words stay 129 words of 16 bits, and its selector at most 3. Assumes nothing.
 use Prim.Native.Nat.{ℕ, suc, _+_, _*_, _%_, _^_, _<_, _≤_}
-use mathlib.Core.Path.{_≡_, refl, sym, ap, _∙_}
-use mathlib.Core.Bool.{Bool, true, false, cond, _&&_}
+use mathlib.Core.Path.{_≡_, sym, _∙_}
+use mathlib.Core.Bool.{true, false, _&&_}
 use mathlib.Core.List.{List, [], _∷_}
 use mathlib.Core.Logic.{⊎-elim}
 use native.Mathlib.Omega.{arith}
@@ -9,7 +9,7 @@ use lib.Dec.{eqb, ltb, lit<}
 use lib.ListN.{length, getD, set}
 use Rattle.std.proofs.shelf.Lists.{length-set, getD-set-same, getD-set-other, set-past, getD-past}
 use Rattle.std.proofs.shelf.Counted.{length-map-counting, getD-map-counting}
-use Rattle.std.proofs.shelf.Tests.{cases-bool, cases-eq, cases-lt, ltb-true, ltb-false, eqb-true, eqb-false, and-parts}
+use Rattle.std.proofs.shelf.Tests.{cases-bool, cases-eq, cases-lt, ltb-true, and-parts}
 use Rattle.chart.specs.declared.class.Class.{Class}
 use Rattle.chart.specs.Rules.{ChartRules}
 use Rattle.chip.specs.Words.{selector, stored-at, rising, all-stored, fresh, Fit, WordsSound}

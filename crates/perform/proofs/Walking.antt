@@ -1,9 +1,6 @@
 -- A list of calls, performed one by one. Assumes nothing.
-use Prim.Native.Nat.{ℕ, _+_, _<_}
-use mathlib.Core.Path.{_≡_, refl, sym, ap, ap₂, _∙_}
-use mathlib.Core.List.{List, [], _∷_, _++_, map, append-assoc}
-use lib.ListN.{length, getD, drop}
-use Rattle.std.proofs.shelf.Lists.{append-nil, drop-more, drop-all, map-push}
+use mathlib.Core.Path.{_≡_, ap, _∙_}
+use mathlib.Core.List.{List, [], _∷_, _++_, append-assoc}
 use Rattle.chart.specs.Replies.{Reply}
 use Rattle.bus.specs.Meaning.{Steps}
 use Rattle.sheet.specs.Said.{Asked}

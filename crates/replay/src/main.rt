@@ -1,5 +1,4 @@
 // Reads a bench sheet from standard input, performs it, and prints its transcript.
-use sheet::Fault;
 use sheet::FaultDisplay;
 use std::error::AnyError;
 use std::io::Read;

@@ -22,7 +22,7 @@ use Rattle.sheet.specs.declared.LineError.{LineError}
 use Rattle.sheet.specs.declared.LineError.the-variants as line-error
 use Rattle.sheet.specs.declared.draft.Draft.{Draft}
 use Rattle.sheet.specs.Cut.{before, wordsOf, linesOf}
-use Rattle.sheet.specs.Said.{Asked, Said, bus, chart, marks, call, asked, mapOk, statementNamed}
+use Rattle.sheet.specs.Said.{Asked, Said, bus, chart, marks, call, asked, statementNamed}
 
 -- what has been said so far
 pub record Sofar : Type 0 where

@@ -1,6 +1,5 @@
 // What a sheet has said so far.
 ghost use mathlib.Core.Path.{_≡_};
-ghost use Rattle.std.specs.Of.Vec.{vec-items};
 ghost use Rattle.sheet.specs.Said.{Gives, mapOk, asked, said};
 ghost use Rattle.sheet.specs.Sheets.{sofar, blankSheet, none, isWindow, onWindow, withBus, withChart, withMarks, withCall, taken, afterLine, finished, Reads};
 use crate::Call;

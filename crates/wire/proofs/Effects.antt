@@ -1,7 +1,7 @@
 -- What the frames of a put and of a get leave of the chip's words. Assumes nothing.
-use Prim.Native.Nat.{ℕ, suc, _+_, _-_, _*_, _/_, _%_, _<_, _≤_}
+use Prim.Native.Nat.{ℕ, _+_, _-_, _/_, _%_, _≤_}
 use mathlib.Core.Path.{_≡_, refl, sym, ap, _∙_}
-use mathlib.Core.Bool.{Bool, true, false, cond}
+use mathlib.Core.Bool.{true, false}
 use mathlib.Core.List.{List, [], _∷_, _++_}
 use mathlib.Core.Logic.{⊎-elim}
 use native.Mathlib.Omega.{arith}
@@ -11,11 +11,11 @@ use Rattle.std.proofs.shelf.Tests.{cases-bool, eq-eqb, ne-eqb}
 use Rattle.std.proofs.shelf.Ways.{tells}
 use Rattle.chip.specs.Words.{stored-at, rising, all-stored}
 use Rattle.wire.specs.declared.event.Event.{Event}
-use Rattle.wire.specs.declared.event.Event.the-variants.{Start, Byte, Stop}
+use Rattle.wire.specs.declared.event.Event.the-variants.{Start, Byte}
 use Rattle.wire.specs.declared.target.State.the-variants.{Listening}
 use Rattle.wire.specs.declared.target.Target.{Target}
 use Rattle.wire.specs.Targets.{write-byte, read-byte, in-state, stores, moved}
-use Rattle.wire.specs.Frames.{Wired, passed, carried, sent, good, reading, fetching, get-frame, put-bytes, put-frame, caught, whole}
+use Rattle.wire.specs.Frames.{Wired, passed, carried, sent, good, fetching, get-frame, put-bytes, put-frame, caught, whole}
 use Rattle.wire.proofs.Fetching.{sent-one, sent-two}
 use Rattle.wire.proofs.Recovering.{caught-stop, own-catches}
 

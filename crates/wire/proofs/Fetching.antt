@@ -1,14 +1,14 @@
 -- A get's frame leads the target to the word that is pointed at. Assumes nothing.
-use Prim.Native.Nat.{ℕ, _+_, _-_, _*_, _/_, _%_, _<_}
+use Prim.Native.Nat.{ℕ, _-_, _/_, _%_}
 use mathlib.Core.Path.{_≡_, refl, sym, ap, ap₂, _∙_}
-use mathlib.Core.Bool.{Bool, true, false, cond}
-use mathlib.Core.List.{List, [], _∷_, _++_}
+use mathlib.Core.Bool.{true, false}
+use mathlib.Core.List.{[], _∷_}
 use native.Mathlib.Omega.{arith}
 use lib.Dec.{eqb}
 use Rattle.std.proofs.shelf.Tests.{eq-eqb, ne-eqb}
 use Rattle.std.proofs.shelf.Ways.{tells}
 use Rattle.chip.specs.Words.{loaded}
-use Rattle.wire.specs.declared.event.Event.the-variants.{Start, Byte, Stop}
+use Rattle.wire.specs.declared.event.Event.the-variants.{Start, Byte}
 use Rattle.wire.specs.declared.target.State.the-variants.{Ready, Giving}
 use Rattle.wire.specs.declared.target.Target.{Target}
 use Rattle.wire.specs.Targets.{write-byte, read-byte, moved, written, given}

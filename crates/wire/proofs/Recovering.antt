@@ -1,7 +1,7 @@
 -- What a put's frame makes of any target. Assumes nothing.
 use Prim.Native.Nat.{ℕ, suc, _+_, _-_, _*_, _/_, _%_, _<_, _≤_}
-use mathlib.Core.Path.{_≡_, refl, sym, ap, ap₂, _∙_}
-use mathlib.Core.Bool.{Bool, true, false, cond}
+use mathlib.Core.Path.{_≡_, refl, sym, ap, _∙_}
+use mathlib.Core.Bool.{true, false, cond}
 use mathlib.Core.List.{List, [], _∷_, _++_}
 use mathlib.Core.Logic.{⊎-elim}
 use native.Mathlib.Nat.{add-zero}
@@ -9,16 +9,15 @@ use native.Mathlib.Omega.{arith}
 use lib.Dec.{eqb, lit<}
 use lib.ListN.{length, take}
 use Rattle.std.proofs.shelf.Bits.{div-add-mod', mod-mul-add}
-use Rattle.std.proofs.shelf.Lists.{append-nil}
 use Rattle.std.proofs.shelf.Tests.{cases-bool, eq-eqb, ne-eqb, eqb-true, eqb-false}
 use Rattle.std.proofs.shelf.Ways.{tells}
 use Rattle.chip.specs.Words.{rising}
 use Rattle.wire.specs.declared.event.Event.{Event}
-use Rattle.wire.specs.declared.event.Event.the-variants.{Start, Byte, Stop}
-use Rattle.wire.specs.declared.target.State.the-variants.{Idle, Listening, Ready, Pointing}
+use Rattle.wire.specs.declared.event.Event.the-variants.{Stop}
+use Rattle.wire.specs.declared.target.State.the-variants.{Idle, Listening, Ready}
 use Rattle.wire.specs.declared.target.Target.{Target}
 use Rattle.wire.specs.Targets.{write-byte, read-byte, in-state, stores, moved}
-use Rattle.wire.specs.Frames.{sent, good, word-bytes, put-bytes, put-frame, caught, whole, Recovered}
+use Rattle.wire.specs.Frames.{sent, good, word-bytes, put-bytes, caught, whole, Recovered}
 
 -- a stop stores nothing
 pub caught-stop : (es : List Event) (t : Target) → caught (es ++ (Stop ∷ [])) t ≡ caught es t

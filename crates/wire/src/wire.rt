@@ -3,7 +3,7 @@ ghost use mathlib.Core.Path.{_≡_};
 ghost use mathlib.Core.Bool.{true, false, cond};
 ghost use Prim.Native.Nat.{_+_, _*_, _%_};
 ghost use lib.ListN.{length};
-ghost use Rattle.wire.specs.declared.event.Event.the-variants.{Start, Byte, Stop};
+ghost use Rattle.wire.specs.declared.event.Event.the-variants.{Byte};
 ghost use Rattle.wire.specs.Targets.{given};
 ghost use Rattle.wire.specs.Frames.{wired, passed, carried, sent, good, word-bytes, put-bytes, put-frame, fetching, get-frame, Recovered, new-wired, with-register};
 ghost use Rattle.wire.specs.Traces.{traced};

@@ -1,6 +1,6 @@
 -- The worked cases are shown. Assumes nothing.
 use Prim.Native.Nat.{ℕ, _-_, _/_}
-use mathlib.Core.Path.{_≡_, refl, ap, _∙_}
+use mathlib.Core.Path.{refl, ap, _∙_}
 use mathlib.Core.Bool.{cond}
 use mathlib.Core.List.{[], _∷_}
 use lib.Dec.{lit≤}
@@ -10,7 +10,7 @@ use Rattle.chart.proofs.Masked.{join-example}
 use Rattle.chip.specs.Words.{loaded, rising, all-stored}
 use Rattle.wire.specs.Frames.{good, whole}
 use Rattle.wire.proofs.Effects.{put-words}
-use Rattle.bus.specs.I2cs.{I2cModel, first-mark, get-cause, put-cause}
+use Rattle.bus.specs.I2cs.{first-mark, get-cause, put-cause}
 use Rattle.worked_cases.specs.Cases.{WorkedCases, GetUnder, PutOfThree}
 
 get-third : GetUnder 3 (refused 6 (1 ∷ 0 ∷ []))

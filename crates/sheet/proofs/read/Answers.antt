@@ -4,8 +4,8 @@ use native.Mathlib.Omega.{arith}
 use borrow.Author.Tests.{true-eqb, false-eqb}
 use lib.ListN.{length}
 use Rattle.std.specs.declared.result.Result.the-variants.{Err}
-use Rattle.sheet.specs.Cut.{after, linesOf}
-use Rattle.sheet.specs.Sheets.{sofar, afterLine, onward, readFrom, sheetOf, finished, Reads}
+use Rattle.sheet.specs.Cut.{linesOf}
+use Rattle.sheet.specs.Sheets.{sofar, afterLine, onward, readFrom, sheetOf, Reads}
 use Rattle.sheet.proofs.Reading.{at-line, stops, goes, at-end, shorter}
 use Rattle.sheet.proofs.read.Needs as need
 use Rattle.sheet.proofs.read.Needs.{After-next-line}

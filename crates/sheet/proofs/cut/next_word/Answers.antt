@@ -1,4 +1,3 @@
-use native.Mathlib.Omega.{arith}
 use borrow.Author.Tests.{true-eqb, false-eqb}
 use Rattle.sheet.proofs.Cutting.{no-word, first-word}
 use Rattle.sheet.proofs.cut.next_word.Needs as need

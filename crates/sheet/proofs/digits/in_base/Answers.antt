@@ -1,6 +1,6 @@
 use native.Mathlib.Omega.{arith}
 use borrow.Author.Tests.{false-eqb}
-use Rattle.sheet.proofs.Digiting.{none-read, fits, no-digit, grown, one-more, all-read}
+use Rattle.sheet.proofs.Digiting.{none-read, no-digit, grown, one-more, all-read}
 use Rattle.sheet.proofs.digits.in_base.Needs as need
 
 pub loop-c-holds : need.loop-c-holds

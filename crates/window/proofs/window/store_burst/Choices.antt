@@ -1,6 +1,6 @@
-use Prim.Native.Nat.{_+_, _≤_}
+use Prim.Native.Nat.{_+_}
 use mathlib.Core.Path.{_≡_}
-use lib.ListN.{length, drop}
+use lib.ListN.{drop}
 use Rattle.chip.specs.Words.{rising, all-stored}
 use Rattle.window.proofs.window.store_burst.Given as given
 

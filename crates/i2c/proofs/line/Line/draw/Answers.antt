@@ -1,12 +1,11 @@
 use Prim.Native.Nat.{ℕ, _+_}
-use mathlib.Core.Bool.{not}
 use mathlib.Core.List.{List}
-use mathlib.Core.Path.{_≡_, refl, sym, ap, ap₂, _∙_}
+use mathlib.Core.Path.{refl, sym, ap, ap₂, _∙_}
 use lib.ListN.{drop}
 use Rattle.std.proofs.shelf.Lists.{take-rest, nil-from-length}
 use Rattle.std.proofs.shelf.Tests.{eqb-true, cond-true, cond-false, not-true, not-false}
 use Rattle.wire.specs.Frames.{good}
-use Rattle.bus.specs.I2cs.{Line as LineModel, first-mark, drawn}
+use Rattle.bus.specs.I2cs.{Line as LineModel, first-mark}
 use Rattle.i2c.proofs.line.Line.draw.Needs as need
 
 line-of : List ℕ → ℕ → LineModel
