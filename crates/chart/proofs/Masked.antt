@@ -3,7 +3,7 @@ use mathlib.Core.Path.{_≡_, refl, sym, _∙_}
 use mathlib.Core.Logic.{inl, inr}
 use Prim.Native.Nat.{ℕ, _-_, _^_, _<_, min, max}
 use native.Mathlib.Omega.{arith}
-use lib.Bits.{bitAnd, bitOr, and-le-r, or-lt}
+use lib.Bits.{bitAnd, and-le-r, or-lt}
 use Rattle.chart.specs.Patch.{bit, acted, joined, ActsByBits, JoinActs, JoinExample}
 use Rattle.chart.specs.declared.patch.Patch.{Patch}
 use Rattle.chart.proofs.Bitwise.{bit-cases, and-bit, or-bit, not-bit, same-bits}

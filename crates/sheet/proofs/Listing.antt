@@ -1,6 +1,6 @@
 -- The steps of the loops that read a list of words. Assumes nothing.
 use mathlib.Core.Path.{_≡_, refl, sym, ap, _∙_}
-use mathlib.Core.List.{List, [], _∷_, _++_, append-nil, append-assoc}
+use mathlib.Core.List.{List, [], _∷_, _++_, append-assoc}
 use Prim.Native.Nat.{ℕ}
 use Rattle.std.specs.declared.result.Result.{Result}
 use Rattle.std.specs.declared.result.Result.the-variants.{Ok, Err}
@@ -12,16 +12,9 @@ abbrev pub onto : List ℕ → Result (List ℕ) Mistake → Result (List ℕ) M
 onto xs (Ok ys) = Ok (xs ++ ys)
 onto xs (Err m) = Err m
 
-pub onto-none : (r : Result (List ℕ) Mistake) → onto [] r ≡ r
-onto-none (Ok ys) = refl
-onto-none (Err m) = refl
-
 pub onto-more : (xs : List ℕ) (x : ℕ) (r : Result (List ℕ) Mistake) → onto xs (chained (Ok x) r) ≡ onto (xs ++ x ∷ []) r
 onto-more xs x (Ok ys) = ap Ok (sym (append-assoc xs (x ∷ []) ys))
 onto-more xs x (Err m) = refl
-
-pub onto-all : (xs : List ℕ) → onto xs (Ok []) ≡ Ok xs
-onto-all xs = ap Ok (append-nil xs)
 
 pub more : (whole here left : Result (List ℕ) Mistake) (xs ys : List ℕ) (g : Result ℕ Mistake) (x : ℕ) → whole ≡ onto xs here → here ≡ chained g left → Ok x ≡ g → ys ≡ xs ++ x ∷ [] → whole ≡ onto ys left
 more whole here left xs ys g x old first is pushed =
