@@ -92,3 +92,7 @@ abbrev pub Recovered : ℕ → ℕ → List ℕ → ℕ → Type 0
 Recovered a raw ws mark =
     (t : Target) → a < 128 → t .address < 128 → raw + length ws ≤ 64
     → caught (put-frame a raw ws mark) t ≡ cond (eqb (t .address) a) (rising raw (take (whole mark (length ws)) ws)) []
+
+-- A get stores nothing in any target, whatever its state and its address.
+abbrev pub Untouched : ℕ → ℕ → ℕ → ℕ → Type 0
+Untouched a raw w mark = (t : Target) → caught (get-frame a raw w mark) t ≡ []

@@ -5,7 +5,7 @@ ghost use Prim.Native.Nat.{_+_, _*_, _%_};
 ghost use lib.ListN.{length};
 ghost use Rattle.wire.specs.declared.event.Event.the-variants.{Byte};
 ghost use Rattle.wire.specs.Targets.{given};
-ghost use Rattle.wire.specs.Frames.{wired, passed, carried, sent, good, word-bytes, put-bytes, put-frame, fetching, get-frame, Recovered, new-wired, with-register};
+ghost use Rattle.wire.specs.Frames.{wired, passed, carried, sent, good, word-bytes, put-bytes, put-frame, fetching, get-frame, Recovered, Untouched, new-wired, with-register};
 ghost use Rattle.wire.specs.Traces.{traced};
 ghost use Rattle.chip.specs.Words.{loaded};
 ghost use Rattle.std.specs.declared.option.Option.the-variants.{Some, None};
@@ -180,6 +180,7 @@ impl Wire {
     pub fn get(&mut self, raw: u8, mark: u8) -> Option<u16>
         ensures value { λ r. ⌜ r ≡ cond (good mark 3) (Some (loaded (now (self .entry) .words) (raw % 64))) None ⌝ }
         ensures wire { λ _. ⌜ wired (now (self .exit)) ≡ carried (get-frame (now (self .entry) .target .address) raw (loaded (now (self .entry) .words) (raw % 64)) mark) (wired (now (self .entry))) ⌝ }
+        ensures untouched { λ _. ⌜ Untouched (now (self .entry) .target .address) raw (loaded (now (self .entry) .words) (raw % 64)) mark ⌝ }
     {
         let word = self.fetch(raw, mark);
         self.pass(Event::Stop);
