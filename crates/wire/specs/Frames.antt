@@ -5,7 +5,7 @@ use mathlib.Core.Bool.{Bool, true, false, cond, _||_}
 use mathlib.Core.List.{List, [], _∷_, _++_}
 use lib.Dec.{eqb, ltb}
 use lib.ListN.{length, set, take}
-use Rattle.chip.specs.Words.{rising, fresh}
+use Rattle.chip.specs.Words.{loaded, rising, fresh}
 use Rattle.wire.specs.Targets.{write-byte, read-byte, new-target, moved, stores, written}
 use Rattle.wire.specs.Traces.{Traced, traced, noted}
 use Rattle.wire.specs.declared.event.Event.{Event}
@@ -61,6 +61,13 @@ made-of t ws tr = record { target = t; words = ws; trace = tr }
 
 abbrev pub wired : Wire → Wired
 wired w = made-of (w .target) (w .words) (traced (w .trace))
+
+-- the address of the target, and the word that it has at a raw address
+abbrev pub own : Wired → ℕ
+own w = w .target .address
+
+abbrev pub pointed-at : Wired → ℕ → ℕ
+pointed-at w raw = loaded (w .words) (raw % 64)
 
 abbrev pub new-wired : (ℕ → ℕ) → ℕ → Traced → Wired
 new-wired reset a tr = made-of (new-target a) (fresh reset 129) tr

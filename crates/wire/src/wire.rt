@@ -1,13 +1,12 @@
 // The controller's end of the wire, and what passes to the chip at the other end.
 ghost use mathlib.Core.Path.{_≡_};
 ghost use mathlib.Core.Bool.{true, false, cond};
-ghost use Prim.Native.Nat.{_+_, _*_, _%_};
+ghost use Prim.Native.Nat.{_+_, _*_};
 ghost use lib.ListN.{length};
 ghost use Rattle.wire.specs.declared.event.Event.the-variants.{Byte};
 ghost use Rattle.wire.specs.Targets.{given};
-ghost use Rattle.wire.specs.Frames.{wired, passed, carried, sent, good, word-bytes, put-bytes, put-frame, fetching, get-frame, Recovered, Untouched, new-wired, with-register};
+ghost use Rattle.wire.specs.Frames.{wired, own, pointed-at, passed, carried, sent, good, word-bytes, put-bytes, put-frame, fetching, get-frame, Recovered, Untouched, new-wired, with-register};
 ghost use Rattle.wire.specs.Traces.{traced};
-ghost use Rattle.chip.specs.Words.{loaded};
 ghost use Rattle.std.specs.declared.option.Option.the-variants.{Some, None};
 use crate::event::Event;
 use crate::target::Target;
@@ -43,7 +42,7 @@ impl Wire {
 
     // The chip as new; the trace stands.
     pub fn reset<C: Chart>(&mut self)
-        ensures { λ _. ⌜ wired (now (self .exit)) ≡ new-wired (C·Chart .resets) (now (self .entry) .target .address) (traced (now (self .entry) .trace)) ⌝ }
+        ensures { λ _. ⌜ wired (now (self .exit)) ≡ new-wired (C·Chart .resets) (own (wired (now (self .entry)))) (wired (now (self .entry)) .trace) ⌝ }
     {
         self.target = Target::new(self.target.address);
         memory::reset::<C>(&mut self.words);
@@ -133,8 +132,8 @@ impl Wire {
 
     // The address to write to, the raw address and the words.
     fn send_put(&mut self, raw: u8, words: &[u16], mark: u8) -> bool
-        ensures value { λ r. ⌜ r ≡ good mark (length (put-bytes (now (self .entry) .target .address) raw (now (words .entry)))) ⌝ }
-        ensures wire { λ _. ⌜ wired (now (self .exit)) ≡ carried (sent (put-bytes (now (self .entry) .target .address) raw (now (words .entry))) mark) (wired (now (self .entry))) ⌝ }
+        ensures value { λ r. ⌜ r ≡ good mark (length (put-bytes (own (wired (now (self .entry)))) raw (now (words .entry)))) ⌝ }
+        ensures wire { λ _. ⌜ wired (now (self .exit)) ≡ carried (sent (put-bytes (own (wired (now (self .entry)))) raw (now (words .entry))) mark) (wired (now (self .entry))) ⌝ }
     {
         let head = [write_byte(self.target.address), raw];
         if !self.send(&head, mark) {
@@ -146,8 +145,8 @@ impl Wire {
     // A put of words from a raw address on, as one transfer; says whether all was acknowledged.
     pub fn put(&mut self, raw: u8, words: &[u16], mark: u8) -> bool
         ensures value { λ r. ⌜ r ≡ good mark (2 + 2 * length (now (words .entry))) ⌝ }
-        ensures wire { λ _. ⌜ wired (now (self .exit)) ≡ carried (put-frame (now (self .entry) .target .address) raw (now (words .entry)) mark) (wired (now (self .entry))) ⌝ }
-        ensures recovered { λ _. ⌜ Recovered (now (self .entry) .target .address) raw (now (words .entry)) mark ⌝ }
+        ensures wire { λ _. ⌜ wired (now (self .exit)) ≡ carried (put-frame (own (wired (now (self .entry)))) raw (now (words .entry)) mark) (wired (now (self .entry))) ⌝ }
+        ensures recovered { λ _. ⌜ Recovered (own (wired (now (self .entry)))) raw (now (words .entry)) mark ⌝ }
     {
         self.pass(Event::Start);
         let accepted = self.send_put(raw, words, mark);
@@ -157,8 +156,8 @@ impl Wire {
 
     // Start to last byte of a get.
     fn fetch(&mut self, raw: u8, mark: u8) -> Option<u16>
-        ensures value { λ r. ⌜ r ≡ cond (good mark 3) (Some (loaded (now (self .entry) .words) (raw % 64))) None ⌝ }
-        ensures wire { λ _. ⌜ wired (now (self .exit)) ≡ carried (fetching (now (self .entry) .target .address) raw (loaded (now (self .entry) .words) (raw % 64)) mark) (wired (now (self .entry))) ⌝ }
+        ensures value { λ r. ⌜ r ≡ cond (good mark 3) (Some (pointed-at (wired (now (self .entry))) raw)) None ⌝ }
+        ensures wire { λ _. ⌜ wired (now (self .exit)) ≡ carried (fetching (own (wired (now (self .entry)))) raw (pointed-at (wired (now (self .entry))) raw) mark) (wired (now (self .entry))) ⌝ }
     {
         let address = self.target.address;
         self.pass(Event::Start);
@@ -178,9 +177,9 @@ impl Wire {
 
     // A get of the word at a raw address, as one transfer; none where a byte was not acknowledged.
     pub fn get(&mut self, raw: u8, mark: u8) -> Option<u16>
-        ensures value { λ r. ⌜ r ≡ cond (good mark 3) (Some (loaded (now (self .entry) .words) (raw % 64))) None ⌝ }
-        ensures wire { λ _. ⌜ wired (now (self .exit)) ≡ carried (get-frame (now (self .entry) .target .address) raw (loaded (now (self .entry) .words) (raw % 64)) mark) (wired (now (self .entry))) ⌝ }
-        ensures untouched { λ _. ⌜ Untouched (now (self .entry) .target .address) raw (loaded (now (self .entry) .words) (raw % 64)) mark ⌝ }
+        ensures value { λ r. ⌜ r ≡ cond (good mark 3) (Some (pointed-at (wired (now (self .entry))) raw)) None ⌝ }
+        ensures wire { λ _. ⌜ wired (now (self .exit)) ≡ carried (get-frame (own (wired (now (self .entry)))) raw (pointed-at (wired (now (self .entry))) raw) mark) (wired (now (self .entry))) ⌝ }
+        ensures untouched { λ _. ⌜ Untouched (own (wired (now (self .entry)))) raw (pointed-at (wired (now (self .entry))) raw) mark ⌝ }
     {
         let word = self.fetch(raw, mark);
         self.pass(Event::Stop);
