@@ -81,6 +81,9 @@ i2c-steps class reset = record {
 abbrev pub i2c-chip : I2cModel → Chip
 i2c-chip m = record { words = m .wire .words; supply = m .supply; failed = m .line .failed }
 
+abbrev pub i2c-trace : I2cModel → Traced
+i2c-trace m = m .wire .trace
+
 abbrev pub I2cSound : I2cModel → Type 0
 I2cSound m = WordsSound (m .wire .words)
 

@@ -7,6 +7,7 @@ use lib.ListN.{length}
 use Rattle.chart.specs.Replies.{accepted}
 use Rattle.chart.specs.declared.class.Class.{Class}
 use Rattle.chip.specs.Words.{loaded, rising, all-stored, fresh, WordsSound}
+use Rattle.wire.specs.Traces.{Traced}
 use Rattle.bus.specs.Chips.{Chip, words-measured}
 use Rattle.bus.specs.Checks.{get-check, put-check, measure-check, unless}
 use Rattle.bus.specs.Meaning.{Steps}
@@ -30,6 +31,10 @@ window-steps class reset = record {
 
 abbrev pub window-chip : WindowModel → Chip
 window-chip m = record { words = m .words; supply = m .supply; failed = 0 }
+
+-- a window has no wire
+abbrev pub window-trace : WindowModel → Traced
+window-trace m = record { events = []; room = 0; overrun = false }
 
 abbrev pub WindowSound : WindowModel → Type 0
 WindowSound m = WordsSound (m .words)

@@ -4,11 +4,13 @@ ghost use Prim.Native.Nat.{ℕ};
 ghost use Rattle.chart.specs.declared.class.Class.{Class};
 ghost use Rattle.chart.specs.Rules.{ChartRules};
 ghost use Rattle.chart.specs.Replies.{reply, word-value, no-value};
+ghost use Rattle.wire.specs.Traces.{Traced};
 ghost use Rattle.bus.specs.Chips.{Chip};
 ghost use Rattle.bus.specs.Meaning.{Steps, BusMeaning};
 use chart::class::Chart;
 use chart::refusal::Failure;
 use chart::refusal::Refusal;
+use wire::event::Event;
 
 pub trait Bus {
     // The chart of its chip.
@@ -23,6 +25,9 @@ pub trait Bus {
     ghost steps: { (ℕ → Class) → (ℕ → ℕ) → Steps Model };
 
     ghost chip: { Model → Chip };
+
+    // What passed on the wire so far, as far as there was room.
+    ghost trace: { Model → Traced };
 
     ghost Sound: { Model → Type 0 };
 
@@ -57,4 +62,12 @@ pub trait Bus {
     // How many transfers failed.
     fn failed(&self) -> u64
         ensures { λ r. ⌜ r ≡ chip (model (now (self .entry))) .failed ⌝ };
+
+    // The events that passed on the wire so far, in order, as far as there was room. A bus that has no wire has none.
+    fn events(&self) -> &[Event]
+        ensures { λ r. ⌜ now r ≡ trace (model (now (self .entry))) .events ⌝ };
+
+    // Whether an event found no room.
+    fn overrun(&self) -> bool
+        ensures { λ r. ⌜ r ≡ trace (model (now (self .entry))) .overrun ⌝ };
 }

@@ -5,6 +5,8 @@ use Rattle.std.specs.declared.result.Result.{Result}
 use Rattle.std.specs.declared.result.Result.the-variants.{Ok, Err}
 use Rattle.chart.specs.declared.refusal.Refusal.{Refusal}
 use Rattle.chart.specs.declared.refusal.Refusal.the-variants.{Length, Register, Live, Setting, Asleep, Line, Address, Memory}
+use Rattle.chart.specs.declared.refusal.Cause.{Cause}
+use Rattle.chart.specs.declared.refusal.Cause.the-variants as cause
 use Rattle.chart.specs.declared.refusal.Failure.{Failure}
 
 -- Number 0 is an acceptance, with what was answered; any other is a refusal, with what it tells.
@@ -29,9 +31,14 @@ told tells (Line f) = refused 6 (tells f)
 told tells Address = refused 7 []
 told tells Memory = refused 8 []
 
+-- an address byte was not acknowledged, or another byte
+abbrev pub cause-number : Cause → ℕ
+cause-number cause.Address = 1
+cause-number cause.Data = 2
+
 -- on a bus: the cause, and the words that were stored
 abbrev pub failure-values : Failure → List ℕ
-failure-values f = f .cause ∷ f .stored ∷ []
+failure-values f = cause-number (f .cause) ∷ f .stored ∷ []
 
 -- the reply of a bus, where shown gives the values of an acceptance
 abbrev pub reply : {T : Type 0} → (T → List ℕ) → Result T (Refusal Failure) → Reply

@@ -1,7 +1,7 @@
 // How a call says no: eight refusals, each with its number.
 ghost use mathlib.Core.List.{[]};
 ghost use mathlib.Core.Path.{_≡_};
-ghost use Rattle.chart.specs.Replies.{told};
+ghost use Rattle.chart.specs.Replies.{told, cause-number};
 
 // `F` is what a failed transfer tells: on a bus its cause and the words that were stored.
 #[derive(Clone, Copy, PartialEq, Eq, Debug)]
@@ -41,9 +41,27 @@ impl<F> Refusal<F> {
     }
 }
 
+// Why a transfer failed: which kind of byte was not acknowledged.
+#[derive(Clone, Copy, PartialEq, Eq, Debug)]
+pub enum Cause {
+    Address,
+    Data,
+}
+
+impl Cause {
+    pub fn number(self) -> u8
+        ensures { λ r. ⌜ r ≡ cause-number self ⌝ }
+    {
+        match self {
+            Cause::Address => 1,
+            Cause::Data => 2,
+        }
+    }
+}
+
 // What a failed transfer on a bus tells: why, and how many words of a put the chip took before it.
 #[derive(Clone, Copy, PartialEq, Eq, Debug)]
 pub struct Failure {
-    pub cause: u8,
+    pub cause: Cause,
     pub stored: u8,
 }

@@ -3,9 +3,9 @@
 ghost use mathlib.Core.Path.{_≡_};
 ghost use Prim.Native.Nat.{_+_, _<_, _≤_};
 ghost use lib.ListN.{length};
-ghost use Rattle.chart.specs.Replies.{reply, word-value, no-value};
+ghost use Rattle.chart.specs.Replies.{cause-number, reply, word-value, no-value};
 ghost use Rattle.wire.specs.Traces.{traced};
-ghost use Rattle.bus.specs.I2cs.{I2cModel, get-sent, put-sent, get-cause, put-cause, i2c-steps, i2c-chip, I2cSound, I2cNew};
+ghost use Rattle.bus.specs.I2cs.{I2cModel, get-sent, put-sent, get-cause, put-cause, i2c-steps, i2c-chip, i2c-trace, I2cSound, I2cNew};
 ghost use Rattle.bus.proofs.I2cMeaning.{i2c-meaning};
 ghost use Rattle.i2c.specs.Made.{i2c-model, I2cMade};
 use crate::line::Line;
@@ -14,6 +14,7 @@ use bus::checks::get_refusal;
 use bus::checks::measure_refusal;
 use bus::checks::put_refusal;
 use chart::class::Chart;
+use chart::refusal::Cause;
 use chart::refusal::Failure;
 use chart::refusal::Refusal;
 use std::marker::PhantomData;
@@ -36,17 +37,25 @@ pub struct Unaddressed {
     pub trace: Trace,
 }
 
-// The cause of a failure is 1 at an address byte and 2 at another.
-fn put_cause(mark: u8) -> u8
-    ensures { λ r. ⌜ r ≡ put-cause mark ⌝ }
+// A put has an address in its first byte, a get in its first and its third.
+fn put_cause(mark: u8) -> Cause
+    ensures { λ r. ⌜ cause-number r ≡ put-cause mark ⌝ }
 {
-    if mark == 1 { 1 } else { 2 }
+    if mark == 1 {
+        Cause::Address
+    } else {
+        Cause::Data
+    }
 }
 
-fn get_cause(mark: u8) -> u8
-    ensures { λ r. ⌜ r ≡ get-cause mark ⌝ }
+fn get_cause(mark: u8) -> Cause
+    ensures { λ r. ⌜ cause-number r ≡ get-cause mark ⌝ }
 {
-    if mark == 2 { 2 } else { 1 }
+    if mark == 2 {
+        Cause::Data
+    } else {
+        Cause::Address
+    }
 }
 
 impl<'a, C: Chart> I2c<'a, C> {
@@ -66,20 +75,6 @@ impl<'a, C: Chart> I2c<'a, C> {
             wire: Wire::new::<C>(address as u8, trace),
             chart: PhantomData,
         })
-    }
-
-    // What passed on the wire so far, in order, as far as the trace has room.
-    pub fn events(&self) -> &[Event]
-        ensures { λ r. ⌜ now r ≡ i2c-model (now (self .entry)) .wire .trace .events ⌝ }
-    {
-        self.wire.events()
-    }
-
-    // Whether an event found no room in the trace.
-    pub fn overrun(&self) -> bool
-        ensures { λ r. ⌜ r ≡ i2c-model (now (self .entry)) .wire .trace .overrun ⌝ }
-    {
-        self.wire.overrun()
     }
 
     fn send_get(&mut self, raw: u8) -> Result<u16, Refusal<Failure>>
@@ -121,6 +116,8 @@ pub impl<'a, C: Chart> Bus for I2c<'a, C> as I2cBus {
     ghost steps = { i2c-steps };
 
     ghost chip = { i2c-chip };
+
+    ghost trace = { i2c-trace };
 
     ghost Sound = { I2cSound };
 
@@ -167,5 +164,13 @@ pub impl<'a, C: Chart> Bus for I2c<'a, C> as I2cBus {
 
     fn failed(&self) -> u64 {
         self.line.failed()
+    }
+
+    fn events(&self) -> &[Event] {
+        self.wire.events()
+    }
+
+    fn overrun(&self) -> bool {
+        self.wire.overrun()
     }
 }

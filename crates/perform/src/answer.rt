@@ -5,8 +5,7 @@ ghost use Rattle.chart.specs.Replies.{reply, word-value, no-value};
 ghost use Rattle.sheet.specs.Said.{asked};
 ghost use Rattle.std.specs.Of.Vec.{vec-items};
 ghost use Rattle.std.specs.Results.{Cases};
-ghost use Rattle.perform.specs.Performed.{answer-reply, outcome-reply, performed, walked};
-use crate::watch::Watched;
+ghost use Rattle.perform.specs.Performed.{answer-reply, seen, performed, walked};
 use bus::bus::Bus;
 use chart::refusal::Failure;
 use chart::refusal::Refusal;
@@ -65,12 +64,12 @@ pub struct Outcome {
 }
 
 // Performs calls in order. The places for their outcomes are reserved first, so that want of memory performs none.
-pub fn perform_all<B: Bus + Watched>(
+pub fn perform_all<B: Bus>(
     heap: Global,
     bus: &mut B,
     calls: &[Call],
 ) -> Result<Vec<Outcome>, AllocError>
-    ensures { λ r. ⌜ Cases r (λ v. (map outcome-reply (vec-items v), B·Bus .model (now (bus .exit))) ≡ walked (B·Bus .steps (Chart·Chart .classed) (Chart·Chart .resets)) (map asked (now (calls .entry))) (B·Bus .model (now (bus .entry)))) (λ _. B·Bus .model (now (bus .exit)) ≡ B·Bus .model (now (bus .entry))) ⌝ }
+    ensures { λ r. ⌜ Cases r (λ v. (map seen (vec-items v), B·Bus .model (now (bus .exit))) ≡ walked (B·Bus .steps (Chart·Chart .classed) (Chart·Chart .resets)) (B·Bus .trace) (map asked (now (calls .entry))) (B·Bus .model (now (bus .entry)))) (λ _. B·Bus .model (now (bus .exit)) ≡ B·Bus .model (now (bus .entry))) ⌝ }
 {
     let mut outcomes = Vec::with_capacity(heap, calls.len())?;
     for call in calls {

@@ -1,2 +1,1 @@
 pub mod answer;
-pub mod watch;

@@ -1,4 +1,14 @@
 // Performs a bench sheet on a simulated chip, and writes down what each call answered and what passed on the wire.
+ghost use mathlib.Core.Path.{_≡_};
+ghost use mathlib.Core.List.{map};
+ghost use Rattle.sheet.specs.Said.{asked};
+ghost use Rattle.sheet.specs.Sheets.{whole};
+ghost use Rattle.std.specs.Of.String.{string-bytes};
+ghost use Rattle.std.specs.Of.Vec.{vec-items};
+ghost use Rattle.std.specs.Vec.{made};
+ghost use Rattle.transcript.specs.Told.{played, I2cTells, WindowTells, SheetTells};
+
+mod hex;
 pub mod text;
 
 use bus::bus::Bus;
@@ -11,9 +21,6 @@ use chip::memory;
 use i2c::i2c::I2c;
 use i2c::i2c::I2cBus;
 use perform::answer::perform_all;
-use perform::watch::I2cWatched;
-use perform::watch::Watched;
-use perform::watch::WindowWatched;
 use sheet::Call;
 use sheet::ChartName;
 use sheet::Make;
@@ -44,15 +51,18 @@ fn room(calls: &[Call]) -> usize {
     all
 }
 
-fn play<B: Bus + Watched>(heap: Global, mut bus: B, calls: &[Call]) -> Result<String, AllocError>
+fn play<B: Bus>(heap: Global, mut bus: B, calls: &[Call]) -> Result<String, AllocError>
 where
     B: Drop,
+    ensures { λ r. ⌜ made r (λ t. string-bytes t ≡ played (B·Bus .steps (Chart·Chart .classed) (Chart·Chart .resets)) (B·Bus .trace) (B·Bus .chip) (map asked (now (calls .entry))) (B·Bus .model bus)) ⌝ }
 {
     let outcomes = perform_all(heap, &mut bus, calls)?;
     written(heap, &bus, calls, outcomes.as_slice())
 }
 
-fn play_i2c<C: Chart>(heap: Global, address: u16, sheet: &Sheet) -> Result<String, AllocError> {
+fn play_i2c<C: Chart>(heap: Global, address: u16, sheet: &Sheet) -> Result<String, AllocError>
+    ensures { λ r. ⌜ made r (λ t. I2cTells (C·Chart .classed) (C·Chart .resets) address (vec-items (now (sheet .entry) .marks)) (map asked (vec-items (now (sheet .entry) .calls))) (string-bytes t)) ⌝ }
+{
     let trace = Trace::new(heap, room(sheet.calls.as_slice()))?;
     match I2c::<C>::new(address, sheet.marks.as_slice(), trace) {
         Ok(bus) => play(heap, bus, sheet.calls.as_slice()),
@@ -60,7 +70,9 @@ fn play_i2c<C: Chart>(heap: Global, address: u16, sheet: &Sheet) -> Result<Strin
     }
 }
 
-fn play_window<C: Chart>(heap: Global, sheet: &Sheet) -> Result<String, AllocError> {
+fn play_window<C: Chart>(heap: Global, sheet: &Sheet) -> Result<String, AllocError>
+    ensures { λ r. ⌜ made r (λ t. WindowTells (C·Chart .classed) (C·Chart .resets) (map asked (vec-items (now (sheet .entry) .calls))) (string-bytes t)) ⌝ }
+{
     let mut words = [0; memory::WORDS];
     match Window::<C>::new(&mut words) {
         Ok(bus) => play(heap, bus, sheet.calls.as_slice()),
@@ -69,7 +81,9 @@ fn play_window<C: Chart>(heap: Global, sheet: &Sheet) -> Result<String, AllocErr
 }
 
 // The transcript of a whole sheet.
-pub fn transcript(heap: Global, sheet: &Sheet) -> Result<String, AllocError> {
+pub fn transcript(heap: Global, sheet: &Sheet) -> Result<String, AllocError>
+    ensures { λ r. ⌜ made r (λ t. SheetTells (whole (now (sheet .entry))) (string-bytes t)) ⌝ }
+{
     match (sheet.make, sheet.chart) {
         (Make::I2c(address), ChartName::Head) => play_i2c::<Head>(heap, address, sheet),
         (Make::I2c(address), ChartName::Valve) => play_i2c::<Valve>(heap, address, sheet),

@@ -3,7 +3,7 @@ ghost use mathlib.Core.Path.{_≡_};
 ghost use Prim.Native.Nat.{_+_, _≤_};
 ghost use lib.ListN.{length};
 ghost use Rattle.chip.specs.Words.{loaded, rising, all-stored};
-ghost use Rattle.bus.specs.Windows.{WindowModel, window-steps, window-chip, WindowSound, WindowNew};
+ghost use Rattle.bus.specs.Windows.{WindowModel, window-steps, window-chip, window-trace, WindowSound, WindowNew};
 ghost use Rattle.bus.proofs.WindowMeaning.{window-meaning};
 ghost use Rattle.window.specs.Made.{window-model, WindowMade};
 use bus::bus::Bus;
@@ -15,6 +15,7 @@ use chart::refusal::Failure;
 use chart::refusal::Refusal;
 use chip::memory;
 use std::marker::PhantomData;
+use wire::event::Event;
 
 // The memory is that of `chip::memory`: 128 registers and the selector.
 #[derive(Drop)]
@@ -82,6 +83,8 @@ pub impl<'a, C: Chart> Bus for Window<'a, C> as WindowBus {
 
     ghost chip = { window-chip };
 
+    ghost trace = { window-trace };
+
     ghost Sound = { WindowSound };
 
     ghost New = { WindowNew };
@@ -128,5 +131,13 @@ pub impl<'a, C: Chart> Bus for Window<'a, C> as WindowBus {
 
     fn failed(&self) -> u64 {
         0
+    }
+
+    fn events(&self) -> &[Event] {
+        &[]
+    }
+
+    fn overrun(&self) -> bool {
+        false
     }
 }

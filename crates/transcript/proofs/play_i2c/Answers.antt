@@ -1,0 +1,17 @@
+use mathlib.Core.Path.{ap}
+use mathlib.Core.List.{map}
+use Rattle.sheet.specs.Said.{asked}
+use Rattle.std.specs.Of.Vec.{vec-items}
+use Rattle.wire.specs.Traces.{traced}
+use Rattle.i2c.specs.Made.{i2c-model}
+use Rattle.transcript.proofs.Telling.{i2c-told}
+use Rattle.transcript.proofs.play_i2c.Needs as need
+
+pub returns-in-Ok : need.returns-in-Ok
+returns-in-Ok g c =
+    let sheet = c .args .sheet .now in
+    let bus = c .in-Ok .ensures tt in
+    let trace = c .in-Continue-trace .ensures tt in
+    i2c-told (g .C·Chart .classed) (g .C·Chart .resets) (c .args .address) (c .as-slice-2 .result .now) (vec-items (sheet .marks)) (traced (c .in-Continue-trace .trace))
+    (map asked (c .as-slice-in-Ok .result .now)) (map asked (vec-items (sheet .calls))) (i2c-model (c .in-Ok .bus)) (c .play .result)
+    (bus .0) (bus .1) (c .as-slice-2 .ensures .value) (ap (map asked) (c .as-slice-in-Ok .ensures .value)) (trace .0) (trace .1) (c .play .ensures)
