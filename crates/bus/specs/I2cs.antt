@@ -9,7 +9,7 @@ use lib.ListN.{length, getD, drop}
 use Rattle.chart.specs.Replies.{Reply, accepted, refused}
 use Rattle.chart.specs.declared.class.Class.{Class}
 use Rattle.chip.specs.Words.{loaded, WordsSound}
-use Rattle.wire.specs.Traces.{Traced}
+use Rattle.i2c_target.specs.Traces.{Traced}
 use Rattle.wire.specs.Frames.{Wired, new-wired, made-of, carried, good, put-frame, get-frame}
 use Rattle.bus.specs.Chips.{Chip, words-measured}
 use Rattle.bus.specs.Checks.{get-check, put-check, measure-check, unless}

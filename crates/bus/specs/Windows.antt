@@ -7,7 +7,7 @@ use lib.ListN.{length}
 use Rattle.chart.specs.Replies.{accepted}
 use Rattle.chart.specs.declared.class.Class.{Class}
 use Rattle.chip.specs.Words.{loaded, rising, all-stored, fresh, WordsSound}
-use Rattle.wire.specs.Traces.{Traced}
+use Rattle.i2c_target.specs.Traces.{Traced}
 use Rattle.bus.specs.Chips.{Chip, words-measured}
 use Rattle.bus.specs.Checks.{get-check, put-check, measure-check, unless}
 use Rattle.bus.specs.Meaning.{Steps}

@@ -4,13 +4,13 @@ ghost use Prim.Native.Nat.{ℕ};
 ghost use Rattle.chart.specs.declared.class.Class.{Class};
 ghost use Rattle.chart.specs.Rules.{ChartRules};
 ghost use Rattle.chart.specs.Replies.{reply, word-value, no-value};
-ghost use Rattle.wire.specs.Traces.{Traced};
+ghost use Rattle.i2c_target.specs.Traces.{Traced};
 ghost use Rattle.bus.specs.Chips.{Chip};
 ghost use Rattle.bus.specs.Meaning.{Steps, BusMeaning};
 use chart::class::Chart;
 use chart::refusal::Failure;
 use chart::refusal::Refusal;
-use wire::event::Event;
+use i2c_target::event::Event;
 
 pub trait Bus {
     // The chart of its chip.

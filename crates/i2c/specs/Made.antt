@@ -6,7 +6,7 @@ use denote.Ref.{now}
 use Rattle.std.specs.declared.result.Result.{Result}
 use Rattle.std.specs.declared.result.Result.the-variants.{Ok, Err}
 use Rattle.chart.specs.Replies.{refused, told, failure-values}
-use Rattle.wire.specs.Traces.{Traced, traced}
+use Rattle.i2c_target.specs.Traces.{Traced, traced}
 use Rattle.wire.specs.Frames.{wired}
 use Rattle.bus.specs.I2cs.{I2cModel, i2c-of, new-i2c, Line as LineModel}
 use Rattle.i2c.specs.declared.line.Line.{Line}

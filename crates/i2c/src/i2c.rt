@@ -4,7 +4,7 @@ ghost use mathlib.Core.Path.{_≡_};
 ghost use Prim.Native.Nat.{_+_, _<_, _≤_};
 ghost use lib.ListN.{length};
 ghost use Rattle.chart.specs.Replies.{cause-number, reply, word-value, no-value};
-ghost use Rattle.wire.specs.Traces.{traced};
+ghost use Rattle.i2c_target.specs.Traces.{traced};
 ghost use Rattle.bus.specs.I2cs.{I2cModel, get-sent, put-sent, get-cause, put-cause, i2c-steps, i2c-chip, i2c-trace, I2cSound, I2cNew};
 ghost use Rattle.bus.proofs.I2cMeaning.{i2c-meaning};
 ghost use Rattle.i2c.specs.Made.{i2c-model, I2cMade};
@@ -17,9 +17,9 @@ use chart::class::Chart;
 use chart::refusal::Cause;
 use chart::refusal::Failure;
 use chart::refusal::Refusal;
+use i2c_target::event::Event;
+use i2c_target::trace::Trace;
 use std::marker::PhantomData;
-use wire::event::Event;
-use wire::trace::Trace;
 use wire::wire::Wire;
 
 #[derive(Drop)]

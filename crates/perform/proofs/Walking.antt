@@ -2,7 +2,7 @@
 use mathlib.Core.Path.{_≡_, ap, _∙_}
 use mathlib.Core.List.{List, [], _∷_, _++_, append-assoc}
 use Rattle.chart.specs.Replies.{Reply}
-use Rattle.wire.specs.Traces.{Traced}
+use Rattle.i2c_target.specs.Traces.{Traced}
 use Rattle.bus.specs.Meaning.{Steps}
 use Rattle.sheet.specs.Said.{Asked}
 use Rattle.perform.specs.Performed.{Seen, seen-after, then, performed, walked}

@@ -3,7 +3,7 @@ use Prim.Native.Nat.{ℕ}
 use mathlib.Core.List.{List, [], _∷_}
 use lib.ListN.{length}
 use Rattle.chart.specs.Replies.{Reply, accepted, told, failure-values, word-value}
-use Rattle.wire.specs.Traces.{Traced}
+use Rattle.i2c_target.specs.Traces.{Traced}
 use Rattle.bus.specs.Meaning.{Steps}
 use Rattle.sheet.specs.Said.{Asked, get, put, measure, down, up}
 use Rattle.perform.specs.declared.answer.Answer.{Answer}

@@ -13,8 +13,8 @@ use Rattle.chart.specs.declared.refusal.Refusal.{Refusal}
 use Rattle.chart.specs.declared.refusal.Refusal.the-variants.{Length, Register, Live, Setting, Asleep, Line, Address, Memory}
 use Rattle.perform.specs.Performed.{Seen}
 use Rattle.sheet.specs.Said.{Asked}
-use Rattle.wire.specs.declared.event.Event.{Event}
-use Rattle.transcript.specs.Texts.{Adds, refusal-text, reply-text, event-text, goes-on, events-text, events-between, call-lines, calls-lines}
+use Rattle.i2c_target.specs.declared.event.Event.{Event}
+use Rattle.transcript.specs.Texts.{Adds, event-text, goes-on, events-text, events-between, call-lines, calls-lines}
 
 pub adds-more : {T E Z : Type 0} (r : Result T E) (x y z : String Z) (a b : List ℕ) → string-bytes y ≡ string-bytes x ++ a → Adds r y b z → Adds r x (a ++ b) z
 adds-more (Ok t) x y z a b f g = g ∙ ap (λ l. l ++ b) f ∙ append-assoc (string-bytes x) a b
@@ -39,7 +39,7 @@ pub nothing-seen : (es : List Event) (number passed : ℕ) (cs : List Asked) →
 nothing-seen es number passed [] = refl
 nothing-seen es number passed (c ∷ cs) = refl
 
--- a refusal has its number whatever else it tells, and it is never 0
+-- a refusal has its number whatever else it tells
 pub same-number : (e : Refusal Failure) → told (λ _. []) e .number ≡ told failure-values e .number
 same-number Length = refl
 same-number Register = refl
@@ -49,13 +49,3 @@ same-number Asleep = refl
 same-number (Line f) = refl
 same-number Address = refl
 same-number Memory = refl
-
-pub refused-text : (e : Refusal Failure) → refusal-text (told failure-values e) ≡ reply-text (told failure-values e)
-refused-text Length = refl
-refused-text Register = refl
-refused-text Live = refl
-refused-text Setting = refl
-refused-text Asleep = refl
-refused-text (Line f) = refl
-refused-text Address = refl
-refused-text Memory = refl

@@ -11,7 +11,7 @@ use Rattle.std.specs.declared.result.Result.the-variants.{Ok, Err}
 use Rattle.std.specs.declared.string.String.{String}
 use Rattle.chart.specs.declared.class.Class.{Class}
 use Rattle.chip.specs.Words.{fresh}
-use Rattle.wire.specs.Traces.{Traced}
+use Rattle.i2c_target.specs.Traces.{Traced}
 use Rattle.bus.specs.I2cs.{I2cModel, i2c-steps, i2c-chip, i2c-trace, new-i2c}
 use Rattle.bus.specs.Windows.{WindowModel, window-of, window-steps, window-chip, window-trace}
 use Rattle.i2c.specs.Made.{Addressable}

@@ -15,9 +15,9 @@ use Rattle.std.specs.Written.{decimal}
 use Rattle.chart.specs.Replies.{Reply}
 use Rattle.perform.specs.Performed.{Seen}
 use Rattle.sheet.specs.Said.{Asked, get, put, measure, down, up}
-use Rattle.wire.specs.Traces.{Traced}
-use Rattle.wire.specs.declared.event.Event.{Event}
-use Rattle.wire.specs.declared.event.Event.the-variants.{Start, Byte, Stop}
+use Rattle.i2c_target.specs.Traces.{Traced}
+use Rattle.i2c_target.specs.declared.event.Event.{Event}
+use Rattle.i2c_target.specs.declared.event.Event.the-variants.{Start, Byte, Stop}
 
 -- a writer that answers r adds the text, unless memory fails
 abbrev pub Adds : {T E Z : Type 0} → Result T E → String Z → List ℕ → String Z → Type 0

@@ -8,7 +8,7 @@ use Rattle.chart.specs.Charts.{head-class, head-reset, valve-class, valve-reset
 use Rattle.chart.specs.Replies.{refused}
 use Rattle.chart.specs.declared.class.Class.{Class}
 use Rattle.chip.specs.Words.{fresh}
-use Rattle.wire.specs.Traces.{Traced}
+use Rattle.i2c_target.specs.Traces.{Traced}
 use Rattle.bus.specs.Chips.{Chip}
 use Rattle.bus.specs.I2cs.{i2c-steps, i2c-chip, i2c-trace, new-i2c}
 use Rattle.bus.specs.Meaning.{Steps}

@@ -20,6 +20,7 @@ use chart::class::Chart;
 use chip::memory;
 use i2c::i2c::I2c;
 use i2c::i2c::I2cBus;
+use i2c_target::trace::Trace;
 use perform::answer::perform_all;
 use sheet::Call;
 use sheet::ChartName;
@@ -31,7 +32,6 @@ use text::unmade;
 use text::written;
 use window::window::Window;
 use window::window::WindowBus;
-use wire::trace::Trace;
 
 // The most events that a call makes on the wire.
 fn room_of(call: &Call) -> usize {

@@ -3,7 +3,6 @@ ghost use mathlib.Core.Path.{_≡_};
 ghost use mathlib.Core.Bool.{false};
 ghost use mathlib.Core.List.{map};
 ghost use Rattle.std.specs.Of.String.{string-bytes};
-ghost use Rattle.std.specs.Of.Vec.{vec-items};
 ghost use Rattle.std.specs.Vec.{made};
 ghost use Rattle.chart.specs.Replies.{told, failure-values};
 ghost use Rattle.sheet.specs.Said.{asked};
@@ -16,6 +15,7 @@ use crate::hex::HexWordDisplay;
 use bus::bus::Bus;
 use chart::refusal::Failure;
 use chart::refusal::Refusal;
+use i2c_target::event::Event;
 use perform::answer::Answer;
 use perform::answer::Outcome;
 use sheet::Call;
@@ -23,7 +23,6 @@ use std::alloc::AllocError;
 use std::alloc::Global;
 use std::fmt;
 use std::fmt::Write;
-use wire::event::Event;
 
 fn name_of(refusal: &Refusal<Failure>) -> &'static str
     ensures { λ r. ⌜ now r ≡ refusal-name (told failure-values (now (refusal .entry)) .number) ⌝ }

@@ -14,8 +14,8 @@ use chart::class::Chart;
 use chart::refusal::Failure;
 use chart::refusal::Refusal;
 use chip::memory;
+use i2c_target::event::Event;
 use std::marker::PhantomData;
-use wire::event::Event;
 
 // The memory is that of `chip::memory`: 128 registers and the selector.
 #[derive(Drop)]

@@ -10,12 +10,12 @@ use lib.ListN.{length, take}
 use Rattle.std.proofs.shelf.Tests.{cases-bool, cond-both}
 use Rattle.std.proofs.shelf.Ways.{tells}
 use Rattle.chip.specs.Words.{stored-at, rising, all-stored}
-use Rattle.wire.specs.declared.event.Event.{Event}
-use Rattle.wire.specs.declared.event.Event.the-variants.{Start, Byte}
-use Rattle.wire.specs.declared.target.State.the-variants.{Idle, Listening, Pointing, Giving}
-use Rattle.wire.specs.declared.target.State.{State}
-use Rattle.wire.specs.declared.target.Target.{Target}
-use Rattle.wire.specs.Targets.{write-byte, read-byte, addressed, in-state, stores, moved}
+use Rattle.i2c_target.specs.declared.event.Event.{Event}
+use Rattle.i2c_target.specs.declared.event.Event.the-variants.{Start, Byte}
+use Rattle.i2c_target.specs.declared.target.State.the-variants.{Idle, Listening, Pointing, Giving}
+use Rattle.i2c_target.specs.declared.target.State.{State}
+use Rattle.i2c_target.specs.declared.target.Target.{Target}
+use Rattle.i2c_target.specs.Targets.{write-byte, read-byte, addressed, in-state, stores, moved}
 use Rattle.wire.specs.Frames.{Wired, passed, carried, sent, good, fetching, get-frame, put-bytes, put-frame, caught, whole, Untouched}
 use Rattle.wire.proofs.Fetching.{sent-one, sent-two}
 use Rattle.wire.proofs.Recovering.{caught-stop, own-catches}

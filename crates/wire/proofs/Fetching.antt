@@ -8,10 +8,10 @@ use lib.Dec.{eqb}
 use Rattle.std.proofs.shelf.Tests.{eq-eqb, ne-eqb}
 use Rattle.std.proofs.shelf.Ways.{tells}
 use Rattle.chip.specs.Words.{loaded}
-use Rattle.wire.specs.declared.event.Event.the-variants.{Start, Byte}
-use Rattle.wire.specs.declared.target.State.the-variants.{Ready, Giving}
-use Rattle.wire.specs.declared.target.Target.{Target}
-use Rattle.wire.specs.Targets.{write-byte, read-byte, moved, written, given}
+use Rattle.i2c_target.specs.declared.event.Event.the-variants.{Start, Byte}
+use Rattle.i2c_target.specs.declared.target.State.the-variants.{Ready, Giving}
+use Rattle.i2c_target.specs.declared.target.Target.{Target}
+use Rattle.i2c_target.specs.Targets.{write-byte, read-byte, moved, written, given}
 use Rattle.wire.specs.Frames.{Wired, passed, carried, sent, good, reading, fetching}
 use Rattle.wire.proofs.Passing.{carried-append}
 

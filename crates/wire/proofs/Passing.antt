@@ -11,8 +11,8 @@ use lib.ListN.{length}
 use Rattle.std.proofs.shelf.Lists.{length-append, append-nil}
 use Rattle.std.proofs.shelf.Tests.{cases-bool}
 use Rattle.std.proofs.shelf.Ways.{tells}
-use Rattle.wire.specs.declared.event.Event.{Event}
-use Rattle.wire.specs.declared.event.Event.the-variants.{Byte}
+use Rattle.i2c_target.specs.declared.event.Event.{Event}
+use Rattle.i2c_target.specs.declared.event.Event.the-variants.{Byte}
 use Rattle.wire.proofs.Sending.{good-none}
 use Rattle.wire.specs.Frames.{Wired, passed, carried, sent, good}
 

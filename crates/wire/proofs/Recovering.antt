@@ -12,11 +12,11 @@ use Rattle.std.proofs.shelf.Bits.{div-add-mod', mod-mul-add}
 use Rattle.std.proofs.shelf.Tests.{cases-bool, eq-eqb, ne-eqb, eqb-true, eqb-false}
 use Rattle.std.proofs.shelf.Ways.{tells}
 use Rattle.chip.specs.Words.{rising}
-use Rattle.wire.specs.declared.event.Event.{Event}
-use Rattle.wire.specs.declared.event.Event.the-variants.{Stop}
-use Rattle.wire.specs.declared.target.State.the-variants.{Idle, Listening, Ready}
-use Rattle.wire.specs.declared.target.Target.{Target}
-use Rattle.wire.specs.Targets.{write-byte, read-byte, in-state, stores, moved}
+use Rattle.i2c_target.specs.declared.event.Event.{Event}
+use Rattle.i2c_target.specs.declared.event.Event.the-variants.{Stop}
+use Rattle.i2c_target.specs.declared.target.State.the-variants.{Idle, Listening, Ready}
+use Rattle.i2c_target.specs.declared.target.Target.{Target}
+use Rattle.i2c_target.specs.Targets.{write-byte, read-byte, in-state, stores, moved}
 use Rattle.wire.specs.Frames.{sent, good, word-bytes, put-bytes, caught, whole, Recovered}
 
 -- a stop stores nothing

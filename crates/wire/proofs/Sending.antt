@@ -8,7 +8,7 @@ use lib.ListN.{length, getD, drop}
 use Rattle.std.proofs.shelf.Lists.{drop-more}
 use Rattle.std.proofs.shelf.Tests.{eq-eqb, ne-eqb}
 use Rattle.std.proofs.shelf.Ways.{tells}
-use Rattle.wire.specs.declared.event.Event.the-variants.{Byte}
+use Rattle.i2c_target.specs.declared.event.Event.the-variants.{Byte}
 use Rattle.wire.specs.Frames.{Wired, passed, carried, sent, good}
 
 module _ (bs : List ℕ) (i mark b : ℕ) (w : Wired) (within : i < length bs) (read : b ≡ getD bs i 0) where

@@ -6,11 +6,11 @@ use mathlib.Core.List.{List, [], _∷_, _++_}
 use lib.Dec.{eqb, ltb}
 use lib.ListN.{length, set, take}
 use Rattle.chip.specs.Words.{loaded, rising, fresh}
-use Rattle.wire.specs.Targets.{write-byte, read-byte, new-target, moved, stores, written}
-use Rattle.wire.specs.Traces.{Traced, traced, noted}
-use Rattle.wire.specs.declared.event.Event.{Event}
-use Rattle.wire.specs.declared.event.Event.the-variants.{Start, Byte, Stop}
-use Rattle.wire.specs.declared.target.Target.{Target}
+use Rattle.i2c_target.specs.Targets.{write-byte, read-byte, new-target, moved, stores, written}
+use Rattle.i2c_target.specs.Traces.{Traced, traced, noted}
+use Rattle.i2c_target.specs.declared.event.Event.{Event}
+use Rattle.i2c_target.specs.declared.event.Event.the-variants.{Start, Byte, Stop}
+use Rattle.i2c_target.specs.declared.target.Target.{Target}
 use Rattle.wire.specs.declared.wire.Wire.{Wire}
 
 -- the bytes of words, each high byte first

@@ -1,3 +1,1 @@
-pub mod Traces
-pub mod Targets
 pub mod Frames

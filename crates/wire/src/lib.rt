@@ -1,4 +1,1 @@
-pub mod event;
-pub mod target;
-pub mod trace;
 pub mod wire;

@@ -3,21 +3,21 @@ ghost use mathlib.Core.Path.{_≡_};
 ghost use mathlib.Core.Bool.{true, false, cond};
 ghost use Prim.Native.Nat.{_+_, _*_};
 ghost use lib.ListN.{length};
-ghost use Rattle.wire.specs.declared.event.Event.the-variants.{Byte};
-ghost use Rattle.wire.specs.Targets.{given};
+ghost use Rattle.i2c_target.specs.declared.event.Event.the-variants.{Byte};
+ghost use Rattle.i2c_target.specs.Targets.{given};
 ghost use Rattle.wire.specs.Frames.{wired, own, pointed-at, passed, carried, sent, good, word-bytes, put-bytes, put-frame, fetching, get-frame, Recovered, Untouched, new-wired, with-register};
-ghost use Rattle.wire.specs.Traces.{traced};
+ghost use Rattle.i2c_target.specs.Traces.{traced};
 ghost use Rattle.std.specs.declared.option.Option.the-variants.{Some, None};
-use crate::event::Event;
-use crate::target::Target;
-use crate::target::high_byte;
-use crate::target::low_byte;
-use crate::target::read_byte;
-use crate::target::word_of;
-use crate::target::write_byte;
-use crate::trace::Trace;
 use chart::class::Chart;
 use chip::memory;
+use i2c_target::event::Event;
+use i2c_target::target::Target;
+use i2c_target::target::high_byte;
+use i2c_target::target::low_byte;
+use i2c_target::target::read_byte;
+use i2c_target::target::word_of;
+use i2c_target::target::write_byte;
+use i2c_target::trace::Trace;
 
 #[derive(Drop)]
 pub struct Wire {

@@ -7,7 +7,7 @@ use lib.ListN.{take}
 use Rattle.chart.specs.Patch.{JoinExample}
 use Rattle.chart.specs.Replies.{Reply, accepted, refused}
 use Rattle.chip.specs.Words.{rising, all-stored}
-use Rattle.wire.specs.declared.event.Event.the-variants.{Start, Byte, Stop}
+use Rattle.i2c_target.specs.declared.event.Event.the-variants.{Start, Byte, Stop}
 use Rattle.wire.specs.Frames.{put-frame, get-frame}
 use Rattle.bus.specs.I2cs.{I2cModel, first-mark, get-sent, put-sent, i2c-chip}
 

@@ -2,7 +2,7 @@ use mathlib.Core.Path.{ap}
 use mathlib.Core.List.{map}
 use Rattle.sheet.specs.Said.{asked}
 use Rattle.std.specs.Of.Vec.{vec-items}
-use Rattle.wire.specs.Traces.{traced}
+use Rattle.i2c_target.specs.Traces.{traced}
 use Rattle.i2c.specs.Made.{i2c-model}
 use Rattle.transcript.proofs.Telling.{i2c-told}
 use Rattle.transcript.proofs.play_i2c.Needs as need

@@ -1,7 +1,7 @@
-use mathlib.Core.Path.{_≡_, sym, ap₂, _∙_}
-use mathlib.Core.List.{List, _++_, map}
-use Prim.Native.Nat.{ℕ, min}
-use lib.ListN.{length, length-map}
+use mathlib.Core.Path.{sym, ap₂, _∙_}
+use mathlib.Core.List.{_++_, map}
+use Prim.Native.Nat.{min}
+use lib.ListN.{length-map}
 use Rattle.sheet.specs.Said.{asked}
 use Rattle.perform.specs.Performed.{seen}
 use Rattle.transcript.specs.Texts.{calls-lines, full-text, tally-text}

@@ -1,10 +1,10 @@
-use mathlib.Core.Path.{sym, ap, _∙_}
+use mathlib.Core.Path.{sym, _∙_}
 use mathlib.Core.List.{List, _++_, append-nil}
 use Prim.Native.Nat.{_+_}
 use lib.ListN.{drop}
 use Rattle.std.proofs.shelf.Lists.{at-drop-more, at-drop-all}
 use Rattle.std.specs.Of.String.{string-bytes}
-use Rattle.wire.specs.declared.event.Event.{Event}
+use Rattle.i2c_target.specs.declared.event.Event.{Event}
 use Rattle.transcript.specs.Texts.{events-text}
 use Rattle.transcript.proofs.Adding.{one-event}
 use Rattle.transcript.proofs.text.write_frames.Needs as need

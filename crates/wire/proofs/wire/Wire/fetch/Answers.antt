@@ -5,8 +5,8 @@ use mathlib.Core.Path.{_≡_, sym, ap, ap₂, _∙_}
 use Rattle.std.proofs.shelf.Bits.{div-add-mod'}
 use Rattle.std.specs.declared.option.Option.the-variants.{Some}
 use Rattle.chip.specs.Words.{loaded}
-use Rattle.wire.specs.declared.event.Event.the-variants.{Start, Byte}
-use Rattle.wire.specs.Targets.{read-byte, given}
+use Rattle.i2c_target.specs.declared.event.Event.the-variants.{Start, Byte}
+use Rattle.i2c_target.specs.Targets.{read-byte, given}
 use Rattle.wire.specs.Frames.{Wired, wired, passed, carried, sent, good}
 use Rattle.wire.proofs.Fetching.{asked, gives-high, gives-low, fetched, good-get}
 use Rattle.wire.proofs.wire.Wire.fetch.Needs as need

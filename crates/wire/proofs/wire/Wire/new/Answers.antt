@@ -1,5 +1,5 @@
 use mathlib.Core.Path.{ap₂}
-use Rattle.wire.specs.Traces.{traced}
+use Rattle.i2c_target.specs.Traces.{traced}
 use Rattle.wire.specs.Frames.{made-of}
 use Rattle.wire.proofs.wire.Wire.new.Needs as need
 

@@ -1,7 +1,7 @@
 use mathlib.Core.List.{[], _∷_}
 use mathlib.Core.Path.{sym, ap, _∙_}
 use lib.ListN.{length}
-use Rattle.wire.specs.declared.event.Event.the-variants.{Start, Stop}
+use Rattle.i2c_target.specs.declared.event.Event.the-variants.{Start, Stop}
 use Rattle.wire.specs.Frames.{wired, passed, carried, sent, good, put-bytes}
 use Rattle.wire.proofs.Passing.{carried-append}
 use Rattle.wire.proofs.Recovering.{recovered, length-put-bytes}

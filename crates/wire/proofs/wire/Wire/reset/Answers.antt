@@ -2,7 +2,7 @@ use mathlib.Core.Path.{_≡_, ap, ap₂, _∙_}
 use lib.ListN.{length}
 use native.Mathlib.Omega.{arith}
 use Rattle.chip.specs.Words.{fresh}
-use Rattle.wire.specs.Traces.{traced}
+use Rattle.i2c_target.specs.Traces.{traced}
 use Rattle.wire.specs.Frames.{made-of}
 use Rattle.wire.proofs.wire.Wire.reset.Needs as need
 

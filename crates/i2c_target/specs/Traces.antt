@@ -5,8 +5,8 @@ use mathlib.Core.List.{List, [], _∷_, _++_}
 use lib.Dec.{ltb}
 use lib.ListN.{length}
 use Rattle.std.specs.Of.Vec.{vec-items, vec-cap}
-use Rattle.wire.specs.declared.event.Event.{Event}
-use Rattle.wire.specs.declared.trace.Trace.{Trace}
+use Rattle.i2c_target.specs.declared.event.Event.{Event}
+use Rattle.i2c_target.specs.declared.trace.Trace.{Trace}
 
 -- the events in order, for how many there is room, and whether one found no room
 pub record Traced : Type 0 where

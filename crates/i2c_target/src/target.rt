@@ -1,7 +1,7 @@
 // The chip's end of the wire.
 ghost use mathlib.Core.Path.{_≡_};
 ghost use Prim.Native.Nat.{_+_, _*_, _/_, _%_};
-ghost use Rattle.wire.specs.Targets.{write-byte, read-byte, new-target, addressed, advanced, moved, written, given};
+ghost use Rattle.i2c_target.specs.Targets.{write-byte, read-byte, new-target, addressed, advanced, moved, written, given};
 use crate::event::Event;
 use chip::memory;
 

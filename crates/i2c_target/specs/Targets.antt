@@ -4,11 +4,11 @@ use mathlib.Core.Bool.{Bool, cond}
 use mathlib.Core.List.{List, [], _∷_}
 use lib.Dec.{eqb}
 use Rattle.chip.specs.Words.{loaded, all-stored}
-use Rattle.wire.specs.declared.event.Event.{Event}
-use Rattle.wire.specs.declared.event.Event.the-variants.{Start, Byte, Stop}
-use Rattle.wire.specs.declared.target.State.{State}
-use Rattle.wire.specs.declared.target.State.the-variants.{Idle, Listening, Pointing, Ready, Half, Giving, GivingLow}
-use Rattle.wire.specs.declared.target.Target.{Target}
+use Rattle.i2c_target.specs.declared.event.Event.{Event}
+use Rattle.i2c_target.specs.declared.event.Event.the-variants.{Start, Byte, Stop}
+use Rattle.i2c_target.specs.declared.target.State.{State}
+use Rattle.i2c_target.specs.declared.target.State.the-variants.{Idle, Listening, Pointing, Ready, Half, Giving, GivingLow}
+use Rattle.i2c_target.specs.declared.target.Target.{Target}
 
 -- The address byte of a write is twice the address, that of a read one more. An address has seven
 -- bits, so nothing is lost.

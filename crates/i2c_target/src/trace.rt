@@ -4,7 +4,7 @@ ghost use mathlib.Core.Bool.{false};
 ghost use mathlib.Core.List.{[]};
 ghost use Prim.Native.Nat.{_≤_};
 ghost use Rattle.std.specs.Vec.{made};
-ghost use Rattle.wire.specs.Traces.{traced, noted};
+ghost use Rattle.i2c_target.specs.Traces.{traced, noted};
 use crate::event::Event;
 use std::alloc::AllocError;
 use std::alloc::Global;
