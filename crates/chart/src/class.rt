@@ -5,7 +5,7 @@ ghost use Rattle.chart.specs.declared.class.Class.{Class};
 ghost use Rattle.chart.specs.Rules.{ChartRules};
 
 // What a number names: nothing, a setting that its user writes, or a live word that the chip writes.
-#[derive(Clone, Copy, PartialEq, Eq, Debug)]
+#[derive(Clone, Copy)]
 pub enum Class {
     Absent,
     Setting,

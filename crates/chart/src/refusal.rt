@@ -4,7 +4,7 @@ ghost use mathlib.Core.Path.{_≡_};
 ghost use Rattle.chart.specs.Replies.{told, cause-number};
 
 // `F` is what a failed transfer tells: on a bus its cause and the words that were stored.
-#[derive(Clone, Copy, PartialEq, Eq, Debug)]
+#[derive(Clone, Copy)]
 pub enum Refusal<F> {
     // a burst of no words or of more than 16
     Length,
@@ -42,7 +42,7 @@ impl<F> Refusal<F> {
 }
 
 // Why a transfer failed: which kind of byte was not acknowledged.
-#[derive(Clone, Copy, PartialEq, Eq, Debug)]
+#[derive(Clone, Copy)]
 pub enum Cause {
     Address,
     Data,
@@ -60,7 +60,7 @@ impl Cause {
 }
 
 // What a failed transfer on a bus tells: why, and how many words of a put the chip took before it.
-#[derive(Clone, Copy, PartialEq, Eq, Debug)]
+#[derive(Clone, Copy)]
 pub struct Failure {
     pub cause: Cause,
     pub stored: u8,

@@ -1,16 +1,20 @@
 // What the line list says of each transfer.
 ghost use mathlib.Core.Path.{_≡_};
-ghost use mathlib.Core.Bool.{not};
+ghost use mathlib.Core.Bool.{cond};
 ghost use Rattle.wire.specs.Frames.{good};
 ghost use Rattle.bus.specs.I2cs.{first-mark, drawn};
 ghost use Rattle.i2c.specs.Made.{line-model, new-line};
 use crate::line::Line;
 
-// Whether a mark names one of so many bytes, counted from 1.
-fn fails(mark: u8, bytes: usize) -> bool
-    ensures { λ r. ⌜ r ≡ not (good mark bytes) ⌝ }
+// How many transfers of so many bytes fail under a mark: one if it names one of the bytes, counted from 1.
+fn failures(mark: u8, bytes: usize) -> u64
+    ensures { λ r. ⌜ r ≡ cond (good mark bytes) 0 1 ⌝ }
 {
-    mark != 0 && mark as usize <= bytes
+    if mark != 0 && mark as usize <= bytes {
+        1
+    } else {
+        0
+    }
 }
 
 impl<'a> Line<'a> {
@@ -32,9 +36,7 @@ impl<'a> Line<'a> {
         }
         let mark = marks[0];
         self.marks = &marks[1..];
-        if fails(mark, bytes) {
-            self.failed += 1;
-        }
+        self.failed += failures(mark, bytes);
         mark
     }
 

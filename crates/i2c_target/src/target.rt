@@ -1,11 +1,12 @@
 // The chip's end of the wire.
 ghost use mathlib.Core.Path.{_≡_};
+ghost use mathlib.Core.List.{[], _∷_};
 ghost use Prim.Native.Nat.{_+_, _*_, _/_, _%_};
 ghost use Rattle.i2c_target.specs.Targets.{write-byte, read-byte, new-target, addressed, advanced, moved, written, given};
 use crate::event::Event;
 use chip::memory;
 
-#[derive(Clone, Copy, PartialEq, Eq, Debug)]
+#[derive(Clone, Copy)]
 pub enum State {
     // takes no part
     Idle,
@@ -22,7 +23,7 @@ pub enum State {
     GivingLow,
 }
 
-#[derive(Clone, Copy, PartialEq, Eq, Debug)]
+#[derive(Clone, Copy)]
 pub struct Target {
     pub address: u8,
     pub state: State,
@@ -50,16 +51,23 @@ pub fn word_of(high: u8, low: u8) -> u16
     u16::from(high) * 256 + u16::from(low)
 }
 
-pub fn high_byte(word: u16) -> u8
+fn high_byte(word: u16) -> u8
     ensures { λ r. ⌜ r ≡ word / 256 ⌝ }
 {
     (word / 256) as u8
 }
 
-pub fn low_byte(word: u16) -> u8
+fn low_byte(word: u16) -> u8
     ensures { λ r. ⌜ r ≡ word % 256 ⌝ }
 {
     (word % 256) as u8
+}
+
+// A word's two bytes in the order of the wire.
+pub fn bytes_of(word: u16) -> [u8; 2]
+    ensures { λ r. ⌜ r ≡ word / 256 ∷ word % 256 ∷ [] ⌝ }
+{
+    [high_byte(word), low_byte(word)]
 }
 
 impl Target {

@@ -1,2 +1,3 @@
 mod Adding
 mod Telling
+mod Roomy

@@ -3,7 +3,7 @@ use mathlib.Core.Path.{_≡_, sym, ap, ap₂, subst₂, _∙_}
 use mathlib.Core.Bool.{true, false}
 use mathlib.Core.List.{List, []}
 use mathlib.Core.Logic.{inl}
-use Prim.Native.Nat.{ℕ}
+use Prim.Native.Nat.{ℕ, _≤_}
 use Rattle.std.specs.Of.String.{string-bytes}
 use Rattle.std.specs.Vec.{made}
 use Rattle.std.specs.declared.result.Result.{Result}
@@ -18,7 +18,8 @@ use Rattle.i2c.specs.Made.{Addressable}
 use Rattle.sheet.specs.Said.{Asked}
 use Rattle.sheet.specs.declared.ChartName.{ChartName}
 use Rattle.sheet.specs.declared.Make.{Make}
-use Rattle.transcript.specs.Told.{played, I2cTells, WindowTells, make-tells}
+use Rattle.transcript.specs.Told.{sheet-room, played, I2cTells, WindowTells, make-tells}
+use Rattle.transcript.proofs.Roomy.{none-left-out}
 
 -- what is made is known by another name
 pub made-is : {T E X : Type 0} (view : T → X) (r : Result T E) (x y : X) → x ≡ y → made r (λ t. view t ≡ x) → made r (λ t. view t ≡ y)
@@ -26,11 +27,11 @@ made-is view (Ok t) x y e h = h ∙ e
 made-is view (Err e′) x y e h = tt
 
 pub i2c-told : {Z E : Type 0} (class : ℕ → Class) (reset : ℕ → ℕ) (a : ℕ) (marks ms : List ℕ) (tr : Traced) (cs ds : List Asked) (m : I2cModel) (r : Result (String Z) E)
-    → Addressable a → m ≡ new-i2c reset a marks tr → marks ≡ ms → cs ≡ ds → tr .events ≡ [] → tr .overrun ≡ false
+    → Addressable a → m ≡ new-i2c reset a marks tr → marks ≡ ms → cs ≡ ds → tr .events ≡ [] → tr .overrun ≡ false → sheet-room ds ≤ tr .room
     → made r (λ t. string-bytes t ≡ played (i2c-steps class reset) i2c-trace i2c-chip cs m) → made r (λ t. I2cTells class reset a ms ds (string-bytes t))
-i2c-told class reset a marks ms tr cs ds m (Ok t) may new lent same none room h =
-    inl (may, (tr, none, room, h ∙ ap₂ (played (i2c-steps class reset) i2c-trace i2c-chip) same (new ∙ ap (λ l. new-i2c reset a l tr) lent)))
-i2c-told class reset a marks ms tr cs ds m (Err e) may new lent same none room h = tt
+i2c-told class reset a marks ms tr cs ds m (Ok t) may new lent same none fresh enough h =
+    inl (may, (tr, none, fresh, none-left-out class reset ds a ms tr none fresh enough, h ∙ ap₂ (played (i2c-steps class reset) i2c-trace i2c-chip) same (new ∙ ap (λ l. new-i2c reset a l tr) lent)))
+i2c-told class reset a marks ms tr cs ds m (Err e) may new lent same none fresh enough h = tt
 
 pub window-told : {Z E : Type 0} (class : ℕ → Class) (reset : ℕ → ℕ) (cs ds : List Asked) (m : WindowModel) (r : Result (String Z) E)
     → m ≡ window-of (fresh reset 129) true → cs ≡ ds

@@ -5,8 +5,9 @@ ghost use Rattle.sheet.specs.Said.{asked};
 ghost use Rattle.sheet.specs.Sheets.{whole};
 ghost use Rattle.std.specs.Of.String.{string-bytes};
 ghost use Rattle.std.specs.Of.Vec.{vec-items};
+ghost use Rattle.std.specs.Options.{Cases};
 ghost use Rattle.std.specs.Vec.{made};
-ghost use Rattle.transcript.specs.Told.{played, I2cTells, WindowTells, SheetTells};
+ghost use Rattle.transcript.specs.Told.{call-room, sheet-room, played, I2cTells, WindowTells, SheetTells};
 
 mod hex;
 pub mod text;
@@ -34,7 +35,9 @@ use window::window::Window;
 use window::window::WindowBus;
 
 // The most events that a call makes on the wire.
-fn room_of(call: &Call) -> usize {
+fn room_of(call: &Call) -> usize
+    ensures { λ r. ⌜ r ≡ call-room (asked (now (call .entry))) ⌝ }
+{
     match call {
         Call::Get { .. } => 8,
         // a start, an address, a raw address, two bytes a word, and a stop
@@ -43,12 +46,15 @@ fn room_of(call: &Call) -> usize {
     }
 }
 
-fn room(calls: &[Call]) -> usize {
+// The room that all frames of the calls need, if there can be so much.
+fn room(calls: &[Call]) -> Option<usize>
+    ensures { λ r. ⌜ Cases r (Unit {0}) (λ n. n ≡ sheet-room (map asked (now (calls .entry)))) ⌝ }
+{
     let mut all: usize = 0;
     for call in calls {
-        all = all.saturating_add(room_of(call));
+        all = all.checked_add(room_of(call))?;
     }
-    all
+    Some(all)
 }
 
 fn play<B: Bus>(heap: Global, mut bus: B, calls: &[Call]) -> Result<String, AllocError>
@@ -63,7 +69,10 @@ where
 fn play_i2c<C: Chart>(heap: Global, address: u16, sheet: &Sheet) -> Result<String, AllocError>
     ensures { λ r. ⌜ made r (λ t. I2cTells (C·Chart .classed) (C·Chart .resets) address (vec-items (now (sheet .entry) .marks)) (map asked (vec-items (now (sheet .entry) .calls))) (string-bytes t)) ⌝ }
 {
-    let trace = Trace::new(heap, room(sheet.calls.as_slice()))?;
+    let Some(room) = room(sheet.calls.as_slice()) else {
+        return Err(AllocError);
+    };
+    let trace = Trace::new(heap, room)?;
     match I2c::<C>::new(address, sheet.marks.as_slice(), trace) {
         Ok(bus) => play(heap, bus, sheet.calls.as_slice()),
         Err(unaddressed) => unmade(heap, unaddressed.refusal),

@@ -1,6 +1,7 @@
 // A chip whose words lie in memory that is lent to the bus. No transfer on it fails.
 ghost use mathlib.Core.Path.{_≡_};
 ghost use Prim.Native.Nat.{_+_, _≤_};
+ghost use lib.Dec.{eqb};
 ghost use lib.ListN.{length};
 ghost use Rattle.chip.specs.Words.{loaded, rising, all-stored};
 ghost use Rattle.bus.specs.Windows.{WindowModel, window-steps, window-chip, window-trace, WindowSound, WindowNew};
@@ -32,12 +33,18 @@ pub struct Unfit<'a> {
     pub words: &'a mut [u16],
 }
 
+fn fits(words: &[u16]) -> bool
+    ensures { λ r. ⌜ r ≡ eqb (length (now (words .entry))) 129 ⌝ }
+{
+    words.len() == memory::WORDS
+}
+
 impl<'a, C: Chart> Window<'a, C> {
     // A new chip in this memory.
     pub fn new(words: &'a mut [u16]) -> Result<Window<'a, C>, Unfit<'a>>
         ensures { λ r. ⌜ WindowMade (C·Chart .resets) (now (words .entry)) r ⌝ }
     {
-        if words.len() != memory::WORDS {
+        if !fits(words) {
             return Err(Unfit {
                 refusal: Refusal::Memory,
                 words,

@@ -12,8 +12,7 @@ use chart::class::Chart;
 use chip::memory;
 use i2c_target::event::Event;
 use i2c_target::target::Target;
-use i2c_target::target::high_byte;
-use i2c_target::target::low_byte;
+use i2c_target::target::bytes_of;
 use i2c_target::target::read_byte;
 use i2c_target::target::word_of;
 use i2c_target::target::write_byte;
@@ -121,7 +120,7 @@ impl Wire {
     {
         let mut left = mark;
         for word in words {
-            let bytes = [high_byte(*word), low_byte(*word)];
+            let bytes = bytes_of(*word);
             if !self.send(&bytes, left) {
                 return false;
             }

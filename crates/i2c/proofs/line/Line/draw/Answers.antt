@@ -1,9 +1,11 @@
 use Prim.Native.Nat.{ℕ, _+_}
+use mathlib.Core.Bool.{Bool, true, false, cond}
 use mathlib.Core.List.{List}
-use mathlib.Core.Path.{refl, sym, ap, ap₂, _∙_}
+use mathlib.Core.Path.{_≡_, refl, sym, ap, ap₂, _∙_}
+use native.Mathlib.Nat.{add-zero}
 use lib.ListN.{drop}
 use Rattle.std.proofs.shelf.Lists.{take-rest, nil-from-length}
-use Rattle.std.proofs.shelf.Tests.{eqb-true, cond-true, cond-false, not-true, not-false}
+use Rattle.std.proofs.shelf.Tests.{eqb-true, cond-true}
 use Rattle.wire.specs.Frames.{good}
 use Rattle.bus.specs.I2cs.{Line as LineModel, first-mark}
 use Rattle.i2c.proofs.line.Line.draw.Needs as need
@@ -21,22 +23,16 @@ returns-then-is-empty c =
       line = ap₂ line-of (none ∙ sym (ap (drop 1) none)) (sym (cond-true _ (l .failed) (l .failed + 1) (ap (λ ks. good (first-mark ks) (c .args .bytes)) none)));
     }
 
-pub returns-then-fails : need.returns-then-fails
-unfolding line-of
-returns-then-fails c =
-    let l = c .args .self .now in
-    let bad = not-true (good (first-mark (l .marks .now)) (c .args .bytes)) (sym (c .if-fails .ensures tt)) in
-    record {
-      value = refl;
-      line = ap₂ line-of (take-rest (l .marks .now) 1) (sym (cond-false _ (l .failed) (l .failed + 1) bad));
-    }
+-- one failure more, or none
+counted-by : (fine : Bool) (n : ℕ) → n + cond fine 0 1 ≡ cond fine n (n + 1)
+counted-by true n = add-zero n
+counted-by false n = refl
 
-pub returns-else-fails : need.returns-else-fails
+pub returns : need.returns
 unfolding line-of
-returns-else-fails c =
+returns c =
     let l = c .args .self .now in
-    let fine = not-false (good (first-mark (l .marks .now)) (c .args .bytes)) (sym (c .if-fails .ensures tt)) in
     record {
       value = refl;
-      line = ap₂ line-of (take-rest (l .marks .now) 1) (sym (cond-true _ (l .failed) (l .failed + 1) fine));
+      line = ap₂ line-of (take-rest (l .marks .now) 1) (ap (λ k. l .failed + k) (c .failures .ensures) ∙ counted-by _ (l .failed));
     }
