@@ -3,11 +3,12 @@
 ghost use mathlib.Core.Path.{_≡_};
 ghost use Prim.Native.Nat.{_+_, _<_, _≤_};
 ghost use lib.ListN.{length};
+ghost use Rattle.std.specs.Orderings.{Decides};
 ghost use Rattle.chart.specs.Replies.{cause-number, reply, word-value, no-value};
 ghost use Rattle.i2c_target.specs.Traces.{traced};
 ghost use Rattle.bus.specs.I2cs.{I2cModel, get-sent, put-sent, get-cause, put-cause, i2c-steps, i2c-chip, i2c-trace, I2cSound, I2cNew};
 ghost use Rattle.bus.proofs.I2cMeaning.{i2c-meaning};
-ghost use Rattle.i2c.specs.Made.{i2c-model, I2cMade};
+ghost use Rattle.i2c.specs.Made.{i2c-model, Addressable, I2cMade};
 use crate::line::Line;
 use bus::bus::Bus;
 use bus::checks::get_refusal;
@@ -37,6 +38,13 @@ pub struct Unaddressed {
     pub trace: Trace,
 }
 
+// Whether a target may have this seven-bit address.
+fn is_addressable(address: u16) -> bool
+    ensures { λ r. ⌜ Decides r (Addressable address) ⌝ }
+{
+    address >= 8 && address <= 127
+}
+
 // A put has an address in its first byte, a get in its first and its third.
 fn put_cause(mark: u8) -> Cause
     ensures { λ r. ⌜ cause-number r ≡ put-cause mark ⌝ }
@@ -63,7 +71,7 @@ impl<'a, C: Chart> I2c<'a, C> {
     pub fn new(address: u16, marks: &'a [u8], trace: Trace) -> Result<I2c<'a, C>, Unaddressed>
         ensures { λ r. ⌜ I2cMade (C·Chart .resets) address (now (marks .entry)) (traced trace) r ⌝ }
     {
-        if address < 8 || address > 127 {
+        if !is_addressable(address) {
             return Err(Unaddressed {
                 refusal: Refusal::Address,
                 trace,

@@ -1,6 +1,7 @@
 // Performs the calls of a sheet on a bus.
 ghost use mathlib.Core.Path.{_≡_};
 ghost use mathlib.Core.List.{map};
+ghost use lib.ListN.{length};
 ghost use Rattle.chart.specs.Replies.{reply, word-value, no-value};
 ghost use Rattle.sheet.specs.Said.{asked};
 ghost use Rattle.std.specs.Of.Vec.{vec-items};
@@ -63,6 +64,13 @@ pub struct Outcome {
     pub passed: usize,
 }
 
+// How many events have passed on the wire.
+fn passed_on<B: Bus>(bus: &B) -> usize
+    ensures { λ r. ⌜ r ≡ length (B·Bus .trace (B·Bus .model (now (bus .entry))) .events) ⌝ }
+{
+    bus.events().len()
+}
+
 // Performs calls in order. The places for their outcomes are reserved first, so that want of memory performs none.
 pub fn perform_all<B: Bus>(
     heap: Global,
@@ -74,7 +82,7 @@ pub fn perform_all<B: Bus>(
     let mut outcomes = Vec::with_capacity(heap, calls.len())?;
     for call in calls {
         let answer = perform(bus, call);
-        let passed = bus.events().len();
+        let passed = passed_on(bus);
         outcomes.push_reserved(Outcome { answer, passed });
     }
     Ok(outcomes)

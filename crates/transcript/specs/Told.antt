@@ -22,7 +22,7 @@ use Rattle.sheet.specs.declared.ChartName.the-variants.{Head, Valve}
 use Rattle.sheet.specs.declared.Make.{Make}
 use Rattle.sheet.specs.declared.Make.the-variants.{I2c, Window}
 use Rattle.perform.specs.Performed.{Seen, walked}
-use Rattle.transcript.specs.Texts.{transcript-text, unmade-text}
+use Rattle.text.specs.Texts.{transcript-text, unmade-text}
 
 -- the text of calls that were seen so, and left a bus at a model
 abbrev pub seen-text : {M : Type 0} → (M → Traced) → (M → Chip) → List Asked → List Seen × M → List ℕ

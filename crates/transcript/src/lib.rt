@@ -8,10 +8,6 @@ ghost use Rattle.std.specs.Of.Vec.{vec-items};
 ghost use Rattle.std.specs.Options.{Cases};
 ghost use Rattle.std.specs.Vec.{made};
 ghost use Rattle.transcript.specs.Told.{call-room, sheet-room, played, I2cTells, WindowTells, SheetTells};
-
-mod hex;
-pub mod text;
-
 use bus::bus::Bus;
 use chart::charts::Head;
 use chart::charts::HeadChart;
@@ -29,8 +25,8 @@ use sheet::Make;
 use sheet::Sheet;
 use std::alloc::AllocError;
 use std::alloc::Global;
-use text::unmade;
-use text::written;
+use text::text::unmade;
+use text::text::written;
 use window::window::Window;
 use window::window::WindowBus;
 

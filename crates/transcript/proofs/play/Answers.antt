@@ -3,7 +3,7 @@ use mathlib.Core.List.{map}
 use Rattle.std.specs.Of.String.{string-bytes}
 use Rattle.sheet.specs.Said.{asked}
 use Rattle.perform.specs.Performed.{seen}
-use Rattle.transcript.specs.Texts.{transcript-text}
+use Rattle.text.specs.Texts.{transcript-text}
 use Rattle.transcript.specs.Told.{seen-text}
 use Rattle.transcript.proofs.Telling.{made-is}
 use Rattle.transcript.proofs.play.Needs as need

@@ -2,7 +2,7 @@ use Prim.Native.Nat.{_+_}
 use mathlib.Core.List.{[], _∷_, _++_, map}
 use mathlib.Core.Path.{sym, ap, _∙_}
 use native.Mathlib.Omega.{arith}
-use lib.ListN.{length, drop}
+use lib.ListN.{drop}
 use Rattle.std.proofs.shelf.Lists.{append-nil, drop-more, drop-all, map-push}
 use Rattle.std.specs.Of.Vec.{vec-items}
 use Rattle.sheet.specs.Said.{asked}
@@ -29,7 +29,7 @@ loop-call-again g c =
       omega (arith, c .push-reserved .ensures .capacity, l .inv .1),
       ap (λ os. continued (map seen os) (walked step trace rest new)) (c .push-reserved .ensures .items)
           ∙ ap (λ rs. continued rs (walked step trace rest new)) (map-push seen (vec-items (l .outcomes)) _)
-          ∙ ap (λ n. continued (before ++ (record { reply = answer-reply (c .perform-answer .result); passed = n } ∷ [])) (walked step trace rest new)) (ap length (c .events-passed .ensures))
+          ∙ ap (λ n. continued (before ++ (record { reply = answer-reply (c .perform-answer .result); passed = n } ∷ [])) (walked step trace rest new)) (c .passed-on-passed .ensures)
           ∙ one-more step trace before (asked (c .call-item .result)) rest (answer-reply (c .perform-answer .result), new) old (c .perform-answer .ensures)
           ∙ ap (λ cs. continued before (walked step trace (map asked cs) old)) (sym cut)
           ∙ l .inv .2,

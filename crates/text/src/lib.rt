@@ -1,0 +1,2 @@
+mod hex;
+pub mod text;
