@@ -1,18 +1,18 @@
 -- A trace with room for what passes leaves nothing out. Assumes nothing.
-use Prim.Native.Nat.{ℕ, suc, _+_, _-_, _*_, _/_, _%_, _<_, _≤_}
-use mathlib.Core.Path.{_≡_, refl}
-use mathlib.Core.Bool.{true, false, cond}
-use mathlib.Core.List.{List, [], _∷_, _++_}
+use Prim.Native.Nat.{ℕ, suc, _+_, _-_, _*_, _/_, _%_, _≤_}
+use mathlib.Core.Path.{_≡_}
+use mathlib.Core.Bool.{true, false}
+use mathlib.Core.List.{List, [], _∷_}
 use native.Mathlib.Omega.{arith}
 use lib.Dec.{eqb, ltb}
 use lib.ListN.{length}
 use Rattle.std.proofs.shelf.Lists.{length-append}
 use Rattle.std.proofs.shelf.Tests.{lt-ltb, cond-both}
 use Rattle.i2c_target.specs.declared.event.Event.{Event}
-use Rattle.i2c_target.specs.declared.event.Event.the-variants.{Start, Byte, Stop}
+use Rattle.i2c_target.specs.declared.event.Event.the-variants.{Byte}
 use Rattle.i2c_target.specs.Targets.{write-byte, read-byte}
 use Rattle.i2c_target.specs.Traces.{Traced, noted}
-use Rattle.wire.specs.Frames.{Wired, passed, carried, sent, good, put-bytes, put-frame, reading, fetching, get-frame}
+use Rattle.wire.specs.Frames.{Wired, passed, carried, sent, good, put-bytes, put-frame, reading, get-frame}
 use Rattle.wire.proofs.Recovering.{length-put-bytes}
 
 -- nothing was left out, and n more events find room
