@@ -1,2 +1,4 @@
+#![tactic(auto)]
+
 pub mod bus;
 pub mod checks;

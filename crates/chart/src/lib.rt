@@ -1,3 +1,5 @@
+#![tactic(auto)]
+
 pub mod charts;
 pub mod class;
 pub mod patch;

@@ -1,3 +1,5 @@
+#![tactic(auto)]
+
 pub mod i2c;
 pub mod line;
 pub mod marks;

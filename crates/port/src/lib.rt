@@ -1,2 +1,4 @@
+#![tactic(auto)]
+
 pub mod checks;
 pub mod port;

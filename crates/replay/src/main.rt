@@ -1,3 +1,5 @@
+#![tactic(auto)]
+
 // Reads a bench sheet from standard input, performs it, and prints its transcript.
 use anyhow::anyhow;
 use std::io::Read;

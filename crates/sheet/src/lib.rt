@@ -1,3 +1,5 @@
+#![tactic(auto)]
+
 // Reads a bench sheet into typed values, or names its first mistake by its line. Nothing is performed here.
 //
 // A sheet has one statement to a line. `#` begins a comment, which runs to the end of its line. Words stand apart by spaces,

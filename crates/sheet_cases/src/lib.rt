@@ -1,3 +1,5 @@
+#![tactic(auto)]
+
 // Sheets with their transcripts, and sheets with their first mistake. All of them were worked out by hand.
 #[cfg(test)]
 mod mistakes;

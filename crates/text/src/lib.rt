@@ -1,2 +1,4 @@
+#![tactic(auto)]
+
 mod hex;
 pub mod text;

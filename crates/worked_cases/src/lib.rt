@@ -1,3 +1,5 @@
+#![tactic(auto)]
+
 // Worked cases, as one statement about the definitions that the contracts use.
 ghost use Rattle.worked_cases.specs.Cases.{WorkedCases};
 

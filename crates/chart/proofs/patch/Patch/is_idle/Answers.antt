@@ -3,4 +3,4 @@ use Rattle.chart.proofs.Masked.{idles}
 use Rattle.chart.proofs.patch.Patch.is_idle.Goals as goal
 
 pub returns : goal.returns
-returns c = rw c.is-mask-empty.ensures record { value = refl; law = idles c.args.self }
+returns c = rw c.is_mask_empty.ensures record { value = refl; law = idles c.args.self }
