@@ -56,7 +56,7 @@ impl<B: Bus> Paging<B> {
     // Over a new bus this is a new port.
     pub fn new(bus: B) -> Paging<B>
         ensures value { paging_model B.Bus.model result ≡ paged (B.Bus.model bus) (Some 0) }
-        ensures new { B.Bus.New Chart-as-Chart.resets (B.Bus.model bus) → PagingNew (B.Bus.New Chart-as-Chart.resets) (paging_model B.Bus.model result) }
+        ensures new { B.Bus.New B.Chart.Chart.resets (B.Bus.model bus) → PagingNew (B.Bus.New B.Chart.Chart.resets) (paging_model B.Bus.model result) }
     {
         Paging { bus, page: Some(0) }
     }
@@ -64,7 +64,7 @@ impl<B: Bus> Paging<B> {
     // Selects the page of a register, unless it is believed to be selected.
     fn reach(&mut self, register: u16) -> Result<(), Refusal<Fault>>
         requires { register < 128 }
-        ensures { (port_reply no_value result, paging_model B.Bus.model self.new) ≡ reached (B.Bus.steps Chart-as-Chart.classed Chart-as-Chart.resets) (paging_model B.Bus.model self.old) register }
+        ensures { (port_reply no_value result, paging_model B.Bus.model self.new) ≡ reached (B.Bus.steps B.Chart.Chart.classed B.Chart.Chart.resets) (paging_model B.Bus.model self.old) register }
     {
         if is_ready(self.page, register) {
             return Ok(());
@@ -85,7 +85,7 @@ impl<B: Bus> Paging<B> {
     // A get of one register.
     fn fetch(&mut self, register: u16) -> Result<u16, Refusal<Fault>>
         requires { register < 128 }
-        ensures { (port_reply word_value result, paging_model B.Bus.model self.new) ≡ fetched (B.Bus.steps Chart-as-Chart.classed Chart-as-Chart.resets) (paging_model B.Bus.model self.old) register }
+        ensures { (port_reply word_value result, paging_model B.Bus.model self.new) ≡ fetched (B.Bus.steps B.Chart.Chart.classed B.Chart.Chart.resets) (paging_model B.Bus.model self.old) register }
     {
         self.reach(register)?;
         match self.bus.get(place_of(register).raw) {
@@ -97,7 +97,7 @@ impl<B: Bus> Paging<B> {
     // One put, to registers of one page.
     fn send(&mut self, first: u16, words: &[u16]) -> Result<(), Refusal<Fault>>
         requires { first < 128 }
-        ensures { (port_reply no_value result, paging_model B.Bus.model self.new) ≡ piece_sent (B.Bus.steps Chart-as-Chart.classed Chart-as-Chart.resets) (paging_model B.Bus.model self.old) first words.now }
+        ensures { (port_reply no_value result, paging_model B.Bus.model self.new) ≡ piece_sent (B.Bus.steps B.Chart.Chart.classed B.Chart.Chart.resets) (paging_model B.Bus.model self.old) first words.now }
     {
         self.reach(first)?;
         match self.bus.put(place_of(first).raw, words) {
@@ -109,7 +109,7 @@ impl<B: Bus> Paging<B> {
     // The word goes out where it differs.
     fn rewrite(&mut self, register: u16, patch: Patch, old: u16) -> Result<(), Refusal<Fault>>
         requires { register < 128 }
-        ensures { (port_reply no_value result, paging_model B.Bus.model self.new) ≡ rewritten (B.Bus.steps Chart-as-Chart.classed Chart-as-Chart.resets) (paging_model B.Bus.model self.old) register patch old }
+        ensures { (port_reply no_value result, paging_model B.Bus.model self.new) ≡ rewritten (B.Bus.steps B.Chart.Chart.classed B.Chart.Chart.resets) (paging_model B.Bus.model self.old) register patch old }
     {
         let new = patch.act(old);
         if new == old {
@@ -121,7 +121,7 @@ impl<B: Bus> Paging<B> {
     // Nothing for a patch that is idle, one put for one that is complete, else a get and then a put.
     fn send_update(&mut self, register: u16, patch: Patch) -> Result<(), Refusal<Fault>>
         requires { register < 128 }
-        ensures { (port_reply no_value result, paging_model B.Bus.model self.new) ≡ update_sent (B.Bus.steps Chart-as-Chart.classed Chart-as-Chart.resets) (paging_model B.Bus.model self.old) register patch }
+        ensures { (port_reply no_value result, paging_model B.Bus.model self.new) ≡ update_sent (B.Bus.steps B.Chart.Chart.classed B.Chart.Chart.resets) (paging_model B.Bus.model self.old) register patch }
     {
         if patch.is_idle() {
             return Ok(());
@@ -137,7 +137,7 @@ impl<B: Bus> Paging<B> {
     fn send_run(&mut self, first: u16, words: &[u16]) -> Result<(), Refusal<Fault>>
         requires first { first < 128 }
         requires last { first + length words.now ≤ 128 }
-        ensures { (port_reply no_value result, paging_model B.Bus.model self.new) ≡ run_sent (B.Bus.steps Chart-as-Chart.classed Chart-as-Chart.resets) (paging_model B.Bus.model self.old) first words.now }
+        ensures { (port_reply no_value result, paging_model B.Bus.model self.new) ≡ run_sent (B.Bus.steps B.Chart.Chart.classed B.Chart.Chart.resets) (paging_model B.Bus.model self.old) first words.now }
     {
         let room = room_of(first);
         if words.len() <= room {

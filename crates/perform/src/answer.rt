@@ -35,7 +35,7 @@ fn word(answer: Result<u16, Refusal<Failure>>) -> Answer
 }
 
 pub fn perform<B: Bus>(bus: &mut B, call: &Call) -> Answer
-    ensures { (answer_reply result, B.Bus.model bus.new) ≡ performed (B.Bus.steps Chart-as-Chart.classed Chart-as-Chart.resets) (asked call.now) (B.Bus.model bus.old) }
+    ensures { (answer_reply result, B.Bus.model bus.new) ≡ performed (B.Bus.steps B.Chart.Chart.classed B.Chart.Chart.resets) (asked call.now) (B.Bus.model bus.old) }
 {
     match call {
         Call::Get { raw } => word(bus.get(*raw)),
@@ -72,7 +72,7 @@ pub fn perform_all<B: Bus>(
     bus: &mut B,
     calls: &[Call],
 ) -> Result<Vec<Outcome>, AllocError>
-    ensures { MatchResult result (λ v. (map seen v.items, B.Bus.model bus.new) ≡ walked (B.Bus.steps Chart-as-Chart.classed Chart-as-Chart.resets) B.Bus.trace (map asked calls.now) (B.Bus.model bus.old)) (λ _. B.Bus.model bus.new ≡ B.Bus.model bus.old) }
+    ensures { MatchResult result (λ v. (map seen v.items, B.Bus.model bus.new) ≡ walked (B.Bus.steps B.Chart.Chart.classed B.Chart.Chart.resets) B.Bus.trace (map asked calls.now) (B.Bus.model bus.old)) (λ _. B.Bus.model bus.new ≡ B.Bus.model bus.old) }
 {
     let mut outcomes = Vec::with_capacity(heap, calls.len())?;
     for call in calls {

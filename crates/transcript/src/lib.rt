@@ -44,7 +44,7 @@ fn room(calls: &[Call]) -> Option<usize>
 fn play<B: Bus>(heap: Global, mut bus: B, calls: &[Call]) -> Result<String, AllocError>
 where
     B: Drop,
-    ensures { IfOk result (λ t. string_bytes t ≡ played (B.Bus.steps Chart-as-Chart.classed Chart-as-Chart.resets) B.Bus.trace B.Bus.chip (map asked calls.now) (B.Bus.model bus)) }
+    ensures { IfOk result (λ t. string_bytes t ≡ played (B.Bus.steps B.Chart.Chart.classed B.Chart.Chart.resets) B.Bus.trace B.Bus.chip (map asked calls.now) (B.Bus.model bus)) }
 {
     let outcomes = perform_all(heap, &mut bus, calls)?;
     written(heap, &bus, calls, outcomes.as_slice())
