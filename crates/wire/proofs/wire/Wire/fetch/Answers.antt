@@ -13,13 +13,13 @@ returns c =
     let raw = c.args.raw in
     let mark = c.args.mark in
     let word = loaded w.words (raw % 64) in
-    let left = c.saturating-sub.ensures in
+    let left = c.saturating_sub.ensures in
     let two : good mark 2 ≡ true = sym c.if-not-send.ensures.value in
     let one : good (mark - 2) 1 ≡ true = ap (λ m. good m 1) (sym left) ∙ sym c.if-not-send-2.ensures.value in
-    let sent-head = c.send.ensures.wire ∙ ap₂ (λ b v. carried (sent (b ∷ raw ∷ []) mark) v) c.write-byte.ensures c.pass.ensures in
+    let sent-head = c.send.ensures.wire ∙ ap₂ (λ b v. carried (sent (b ∷ raw ∷ []) mark) v) c.write_byte.ensures c.pass.ensures in
     let again = c.pass-2.ensures ∙ ap (passed Start) sent-head in
     let ready : wired c.send-2.new.self ≡ asked w raw mark two one =
-    c.send-2.ensures.wire ∙ ap₂ (λ b m. carried (sent (b ∷ []) m) (wired c.pass-2.new.self)) c.read-byte.ensures left
+    c.send-2.ensures.wire ∙ ap₂ (λ b m. carried (sent (b ∷ []) m) (wired c.pass-2.new.self)) c.read_byte.ensures left
     ∙ ap (carried (sent (read_byte w.target.address ∷ []) (mark - 2))) again in
     let high = c.take-high.ensures.value ∙ ap (λ (v : Wired). given v.target v.words) ready ∙ gives_high w raw mark two one in
     let took-high = c.take-high.ensures.wire ∙ ap₂ (λ h v. passed (Byte h true) v) high ready in

@@ -14,8 +14,8 @@ returns c =
     let own = w.target.address in
     let started = ap (λ v. put_bytes v.target.address raw ws) c.pass.ensures in
     record {
-      value = c.send-put-accepted.ensures.value ∙ ap (λ bs. good mark (length bs)) started ∙ ap (good mark) (length-put_bytes own raw ws);
-      wire = c.pass-2.ensures ∙ ap (passed Stop) (c.send-put-accepted.ensures.wire ∙ ap (λ v. carried (sent (put_bytes v.target.address raw ws) mark) v) c.pass.ensures)
+      value = c.send_put-accepted.ensures.value ∙ ap (λ bs. good mark (length bs)) started ∙ ap (good mark) (length-put_bytes own raw ws);
+      wire = c.pass-2.ensures ∙ ap (passed Stop) (c.send_put-accepted.ensures.wire ∙ ap (λ v. carried (sent (put_bytes v.target.address raw ws) mark) v) c.pass.ensures)
           ∙ sym (carried-append (sent (put_bytes own raw ws) mark) (Stop ∷ []) (passed Start w));
       recovered = recovered own raw ws mark;
     }

@@ -20,8 +20,8 @@ loop-byte-preserved c =
     let bs = c.args.bytes.now in
     let w = wired l.self in
     let within = c.loop-byte-test.true in (
-      rw c.saturating-sub-left.ensures (sym (good_more bs l.byte-index l.left _ w within refl c.if-left-eq1.false) ∙ l.invariant.0),
-      rw (c.saturating-sub-left.ensures, c.pass-in-loop-byte.ensures) (sym (sent_more bs l.byte-index l.left _ w within refl c.if-left-eq1.false) ∙ l.invariant.1),
+      rw c.saturating_sub-left.ensures (sym (good_more bs l.byte-index l.left _ w within refl c.if-left-eq1.false) ∙ l.invariant.0),
+      rw (c.saturating_sub-left.ensures, c.pass-in-loop-byte.ensures) (sym (sent_more bs l.byte-index l.left _ w within refl c.if-left-eq1.false) ∙ l.invariant.1),
     )
 
 pub returns : goal.returns

@@ -12,9 +12,9 @@ left_over ws first i within is = rw is (at_drop_more word_bytes ws i 0 within)
 pub returns-then-not-send : goal.returns-then-not-send
 returns-then-not-send c =
     let l = c.loop-word in
-    let first = c.bytes-of-bytes.result in
+    let first = c.bytes_of-bytes.result in
     let rest = word_bytes (drop (l.word-index + 1) c.args.words.now) in
-    let cut = left_over c.args.words.now first l.word-index c.loop-word-test.true c.bytes-of-bytes.ensures in
+    let cut = left_over c.args.words.now first l.word-index c.loop-word-test.true c.bytes_of-bytes.ensures in
     let bad = sym c.if-not-send.ensures.value in
     record {
       value = sym (good_first first rest cut l.left (wired l.self) bad) ∙ l.invariant.0;
@@ -24,11 +24,11 @@ returns-then-not-send c =
 pub loop-word-preserved : goal.loop-word-preserved
 loop-word-preserved c =
     let l = c.loop-word in
-    let first = c.bytes-of-bytes.result in
+    let first = c.bytes_of-bytes.result in
     let rest = word_bytes (drop (l.word-index + 1) c.args.words.now) in
-    let cut = left_over c.args.words.now first l.word-index c.loop-word-test.true c.bytes-of-bytes.ensures in
+    let cut = left_over c.args.words.now first l.word-index c.loop-word-test.true c.bytes_of-bytes.ensures in
     let fine = sym c.if-not-send.ensures.value in
-    let less = c.saturating-sub-left.ensures ∙ ap (λ (bs : List ℕ). l.left - length bs) (sym c.bytes-of-bytes.ensures) in (
+    let less = c.saturating_sub-left.ensures ∙ ap (λ (bs : List ℕ). l.left - length bs) (sym c.bytes_of-bytes.ensures) in (
       rw less (sym (good_both first rest cut l.left (wired l.self) fine) ∙ l.invariant.0),
       rw (less, c.send.ensures.wire) (sym (sent_both first rest cut l.left (wired l.self) fine) ∙ l.invariant.1),
     )
