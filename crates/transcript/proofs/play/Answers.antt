@@ -9,8 +9,8 @@ use Rattle.transcript.proofs.play.Goals as goal
 pub returns : goal.returns
 returns g c =
     let cs = map asked c.args.calls.now in
-    let after = g.B.Bus.model c.perform-all.new.bus in
+    let after = g.B.Bus.model c.perform_all.new.bus in
     made_is string_bytes c.written.result _ _
-    (ap (λ os. transcript_text (g.B.Bus.trace after) (g.B.Bus.chip after).failed cs (map seen os)) c.as-slice.ensures.value
+    (ap (λ os. transcript_text (g.B.Bus.trace after) (g.B.Bus.chip after).failed cs (map seen os)) c.as_slice.ensures.value
     ∙ ap (seen_text g.B.Bus.trace g.B.Bus.chip cs) c.in-ok-outcomes.ensures)
     c.written.ensures

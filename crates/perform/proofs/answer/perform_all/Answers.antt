@@ -5,7 +5,7 @@ use Rattle.perform.specs.Performed.{answer_reply, seen, walked}
 use Rattle.perform.proofs.Walking.{continued, one_more}
 use Rattle.perform.proofs.answer.perform_all.Goals as goal
 
-pub push-reserved-requires : goal.push-reserved-requires
+pub push_reserved-requires : goal.push_reserved-requires
 push-reserved-requires g c = omega (arith, c.loop-call.invariant.0, c.loop-call.invariant.1, c.loop-call-test.true)
 
 pub loop-call-preserved : goal.loop-call-preserved
@@ -20,11 +20,11 @@ loop-call-preserved g c =
     let old = g.B.Bus.model l.bus in
     let new = g.B.Bus.model c.perform-answer.new.bus in
     let cut = drop_more calls i c.call-item.result c.loop-call-test.true ∙ ap (λ x. x ∷ drop (i + 1) calls) (sym c.call-item.is) in (
-      omega (arith, c.push-reserved.ensures.len, l.invariant.0),
-      omega (arith, c.push-reserved.ensures.capacity, l.invariant.1),
-      ap (λ os. continued (map seen os) (walked step trace rest new)) c.push-reserved.ensures.items
+      omega (arith, c.push_reserved.ensures.len, l.invariant.0),
+      omega (arith, c.push_reserved.ensures.capacity, l.invariant.1),
+      ap (λ os. continued (map seen os) (walked step trace rest new)) c.push_reserved.ensures.items
           ∙ ap (λ rs. continued rs (walked step trace rest new)) (map_push seen (vec_items l.outcomes) _)
-          ∙ ap (λ n. continued (before ++ (record { reply = answer_reply c.perform-answer.result; passed = n } ∷ [])) (walked step trace rest new)) c.passed-on-passed.ensures
+          ∙ ap (λ n. continued (before ++ (record { reply = answer_reply c.perform-answer.result; passed = n } ∷ [])) (walked step trace rest new)) c.passed_on-passed.ensures
           ∙ one_more step trace before (asked c.call-item.result) rest (answer_reply c.perform-answer.result, new) old c.perform-answer.ensures
           ∙ ap (λ cs. continued before (walked step trace (map asked cs) old)) (sym cut)
           ∙ l.invariant.2,

@@ -3,7 +3,7 @@ use Rattle.sheet.proofs.Digiting.{none_read, no_digit, grown, one_more, all_read
 use Rattle.sheet.proofs.digits.in_base.Goals as goal
 
 pub loop-c-init : goal.loop-c-init
-loop-c-init c = none_read _ _ (omega (arith, false-eqb _ 0 c.if-is-empty.ensures))
+loop-c-init c = none_read _ _ (omega (arith, false-eqb _ 0 c.if-is_empty.ensures))
 
 pub returns-then-d-base : goal.returns-then-d-base
 returns-then-d-base c = no_digit _ _ _ _ c.loop-c.invariant c.loop-c-test.true _ c.worth-d.ensures c.if-d-base.true

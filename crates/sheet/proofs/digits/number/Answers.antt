@@ -9,4 +9,4 @@ pub returns-in-48 : goal.returns-in-48
 returns-in-48 c =
     let w = c.args.word.now in
     let hex : (eqb (get_or w 0 0) 48 && eqb (get_or w 1 0) 120) ≡ true = grind (arith, nat_tests) in
-    c.in-base.ensures ∙ ap (in_base 16) (take_rest w 2) ∙ sym (cond-true _ (in_base 16 (drop 2 w)) (in_base 10 w) hex)
+    c.in_base.ensures ∙ ap (in_base 16) (take_rest w 2) ∙ sym (cond-true _ (in_base 16 (drop 2 w)) (in_base 10 w) hex)

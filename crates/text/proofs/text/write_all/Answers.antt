@@ -8,9 +8,9 @@ use Rattle.text.proofs.text.write_all.Goals as goal
 
 pub returns : goal.returns
 returns g c =
-    let r = c.write-tally.result in
+    let r = c.write_tally.result in
     let start = c.args.out.now in
-    let end = c.write-tally.new.out in
+    let end = c.write_tally.new.out in
     let calls = c.args.calls.now in
     let outcomes = c.args.outcomes.now in
     let lines = calls_lines c.events.result.now 0 0 (map asked calls) (map seen outcomes) in
@@ -19,5 +19,5 @@ returns g c =
     let count = c.min.ensures ∙ ap₂ min (sym (length-map calls asked)) (sym (length-map outcomes seen)) in
     adds_is r start end (lines ++ (full ++ tally)) _
     (λ i. calls_lines (c.events.ensures i) 0 0 (map asked calls) (map seen outcomes) ++ (full_text (c.overrun.ensures i) ++ tally_text (count i) (c.failed.ensures i)))
-    (adds_more r start c.write-calls.new.out end lines (full ++ tally) c.in-ok-write-calls.ensures
-    (adds_more r c.write-calls.new.out c.write-full.new.out end full tally c.in-ok-write-full.ensures c.write-tally.ensures))
+    (adds_more r start c.write_calls.new.out end lines (full ++ tally) c.in-ok-write_calls.ensures
+    (adds_more r c.write_calls.new.out c.write_full.new.out end full tally c.in-ok-write_full.ensures c.write_tally.ensures))

@@ -6,11 +6,11 @@ use Rattle.text.proofs.text.write_call.Goals as goal
 
 pub returns-in-ok-write : goal.returns-in-ok-write
 returns-in-ok-write c =
-    let r = c.write-words.result in
+    let r = c.write_words.result in
     let start = c.args.out.now in
-    let end = c.write-words.new.out in
-    let words = c.as-slice.result.now in
+    let end = c.write_words.new.out in
+    let words = c.as_slice.result.now in
     let head = codes "put " ++ decimal c.in-Put.raw in
-    let is = ap (λ ws. head ++ words_text ws) c.as-slice.ensures.value ∙ ap (λ k. call_text (asked k)) (sym c.in-Put.is) in
+    let is = ap (λ ws. head ++ words_text ws) c.as_slice.ensures.value ∙ ap (λ k. call_text (asked k)) (sym c.in-Put.is) in
     adds_is r start end (head ++ words_text words) _ is
-    (adds_more r start c.write-in-Put.new.self end head (words_text words) c.in-ok-write.ensures.bytes c.write-words.ensures)
+    (adds_more r start c.write-in-Put.new.self end head (words_text words) c.in-ok-write.ensures.bytes c.write_words.ensures)

@@ -30,11 +30,11 @@ loop-call-preserved c =
     let events = c.args.events.now in
     let rest = iter_rest (zip_first c.next.new.self) in
     let last = iter_rest (zip_second c.next.new.self) in
-    let written = c.in-ok-write-one.ensures ∙ ap (λ es. string_bytes l.out ++ call_lines (l.number + 1) (asked c.in-Some.call.now) (answer_reply c.in-Some.outcome.now.answer) es) c.between-made.ensures in (
+    let written = c.in-ok-write_one.ensures ∙ ap (λ es. string_bytes l.out ++ call_lines (l.number + 1) (asked c.in-Some.call.now) (answer_reply c.in-Some.outcome.now.answer) es) c.between-made.ensures in (
       search rules,
       search rules,
       omega (arith, l.invariant.2, ap length c.in-Some.ensures.steps.0),
-      one_call events (string_bytes l.out) (string_bytes c.write-one.new.out) l.number l.passed (asked c.in-Some.call.now) (seen c.in-Some.outcome.now) (map asked rest) (map seen last) written
+      one_call events (string_bytes l.out) (string_bytes c.write_one.new.out) l.number l.passed (asked c.in-Some.call.now) (seen c.in-Some.outcome.now) (map asked rest) (map seen last) written
           ∙ sym (ap (λ cs. string_bytes l.out ++ calls_lines events l.number l.passed (map asked cs) (map seen (iter_rest (zip_second l.call-iterator)))) c.in-Some.ensures.steps.0
           ∙ ap (λ os. string_bytes l.out ++ calls_lines events l.number l.passed (map asked (c.in-Some.call.now ∷ rest)) (map seen os)) c.in-Some.ensures.steps.1)
           ∙ l.invariant.3,

@@ -8,11 +8,11 @@ use Rattle.i2c.proofs.line.Line.draw.Goals as goal
 line_of : List ℕ → ℕ → LineModel
 line_of marks failed = record { marks = marks; failed = failed }
 
-pub returns-then-is-empty : goal.returns-then-is-empty
+pub returns-then-is_empty : goal.returns-then-is_empty
 unfolding line_of
-returns-then-is-empty c =
+returns-then-is_empty c =
     let l = c.args.self.now in
-    let none = nil_from_length l.marks.now (eqb-true _ 0 (sym c.if-is-empty.ensures)) in
+    let none = nil_from_length l.marks.now (eqb-true _ 0 (sym c.if-is_empty.ensures)) in
     record {
       value = sym (ap first_mark none);
       line = ap₂ line_of (none ∙ sym (ap (drop 1) none)) (sym (cond-true _ l.failed (l.failed + 1) (ap (λ ks. good (first_mark ks) c.args.bytes) none)));

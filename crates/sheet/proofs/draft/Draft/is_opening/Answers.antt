@@ -6,4 +6,4 @@ use Rattle.sheet.proofs.draft.Draft.is_opening.Goals as goal
 pub returns : goal.returns
 returns c =
     let v = c.args.self.now.calls in
-    c.is-empty.ensures ∙ none_is asked (vec_items v) (vec_len v) v.ok.0
+    c.is_empty.ensures ∙ none_is asked (vec_items v) (vec_len v) v.ok.0

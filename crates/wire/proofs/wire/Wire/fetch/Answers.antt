@@ -25,6 +25,6 @@ returns c =
     let took-high = c.take-high.ensures.wire ∙ ap₂ (λ h v. passed (Byte h true) v) high ready in
     let low = c.take-low.ensures.value ∙ ap (λ (v : Wired). given v.target v.words) took-high ∙ gives_low w raw mark two one (word / 256) in
     record {
-      value = rw (good_get w raw mark two one) (ap Some (c.word-of.ensures ∙ ap₂ (λ h l. h * 256 + l) high low ∙ div-add-mod' word 256));
+      value = rw (good_get w raw mark two one) (ap Some (c.word_of.ensures ∙ ap₂ (λ h l. h * 256 + l) high low ∙ div-add-mod' word 256));
       wire = c.take-low.ensures.wire ∙ ap₂ (λ l v. passed (Byte l false) v) low took-high ∙ fetched w raw mark two one;
     }
