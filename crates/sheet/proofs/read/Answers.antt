@@ -26,7 +26,7 @@ loop-rest-smaller c = less (goal.at.loop-rest-smaller c).After-next_line
 pub loop-rest-preserved : goal.loop-rest-preserved
 loop-rest-preserved c =
     let at = (goal.at.loop-rest-preserved c).After-next_line in
-    (goes _ _ (read_from (lines_of c.next_line.result.1.now) (c.loop-rest.line + 1)) (after_line (sofar c.loop-rest.draft) c.next_line.result.0.now) (sofar c.line.new.self) (here at) c.in-default.ensures, omega (arith, less at, c.loop-rest.invariant.1))
+    (goes _ _ (read_from (lines_of c.next_line.result.1.now) (c.loop-rest.line + 1)) (after_line (sofar c.loop-rest.draft) c.next_line.result.0.now) (sofar c.line.new.self) (here at) c.in_default.ensures, omega (arith, less at, c.loop-rest.invariant.1))
 
 pub returns : goal.returns
 returns c =

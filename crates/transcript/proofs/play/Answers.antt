@@ -12,5 +12,5 @@ returns g c =
     let after = g.B.Bus.model c.perform_all.new.bus in
     made_is string_bytes c.written.result _ _
     (ap (λ os. transcript_text (g.B.Bus.trace after) (g.B.Bus.chip after).failed cs (map seen os)) c.as_slice.ensures.value
-    ∙ ap (seen_text g.B.Bus.trace g.B.Bus.chip cs) c.in-ok-outcomes.ensures)
+    ∙ ap (seen_text g.B.Bus.trace g.B.Bus.chip cs) c.in_ok-outcomes.ensures)
     c.written.ensures

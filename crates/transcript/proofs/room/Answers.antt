@@ -14,7 +14,7 @@ loop-call-preserved c =
     let calls = c.args.calls.now in
     let i = c.loop-call.call-index in
     let cut = drop_more calls i c.call-item.result c.loop-call-test.true ∙ ap (λ x. x ∷ drop (i + 1) calls) (sym c.call-item.is) in
-    omega (arith, c.in-ok-all.ensures.1, c.room_of.ensures, ap needed cut, c.loop-call.invariant)
+    omega (arith, c.in_ok-all.ensures.1, c.room_of.ensures, ap needed cut, c.loop-call.invariant)
 
 pub returns : goal.returns
 unfolding needed

@@ -19,5 +19,5 @@ returns g c =
     let count = c.min.ensures ∙ ap₂ min (sym (length-map calls asked)) (sym (length-map outcomes seen)) in
     adds_is r start end (lines ++ (full ++ tally)) _
     (λ i. calls_lines (c.events.ensures i) 0 0 (map asked calls) (map seen outcomes) ++ (full_text (c.overrun.ensures i) ++ tally_text (count i) (c.failed.ensures i)))
-    (adds_more r start c.write_calls.new.out end lines (full ++ tally) c.in-ok-write_calls.ensures
-    (adds_more r c.write_calls.new.out c.write_full.new.out end full tally c.in-ok-write_full.ensures c.write_tally.ensures))
+    (adds_more r start c.write_calls.new.out end lines (full ++ tally) c.in_ok-write_calls.ensures
+    (adds_more r c.write_calls.new.out c.write_full.new.out end full tally c.in_ok-write_full.ensures c.write_tally.ensures))

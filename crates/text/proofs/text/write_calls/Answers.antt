@@ -30,7 +30,7 @@ loop-call-preserved c =
     let events = c.args.events.now in
     let rest = iter_rest (zip_first c.next.new.self) in
     let last = iter_rest (zip_second c.next.new.self) in
-    let written = c.in-ok-write_one.ensures ∙ ap (λ es. string_bytes l.out ++ call_lines (l.number + 1) (asked c.in-Some.call.now) (answer_reply c.in-Some.outcome.now.answer) es) c.between-made.ensures in (
+    let written = c.in_ok-write_one.ensures ∙ ap (λ es. string_bytes l.out ++ call_lines (l.number + 1) (asked c.in-Some.call.now) (answer_reply c.in-Some.outcome.now.answer) es) c.between-made.ensures in (
       search rules,
       search rules,
       omega (arith, l.invariant.2, ap length c.in-Some.ensures.steps.0),

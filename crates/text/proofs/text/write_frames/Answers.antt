@@ -12,7 +12,7 @@ loop-event-preserved c =
     let here = string_bytes l.out in
     let after = string_bytes c.write_event.new.out in
     let whole = λ (es : List Event). here ++ events_text l.begun es in
-    one_event here after l.begun c.goes_on-begun.result _ (drop (l.event-index + 1) events) c.in-ok-write_event.ensures c.goes_on-begun.ensures
+    one_event here after l.begun c.goes_on-begun.result _ (drop (l.event-index + 1) events) c.in_ok-write_event.ensures c.goes_on-begun.ensures
     ∙ sym (at_drop_more whole events l.event-index _ c.loop-event-test.true)
     ∙ l.invariant
 

@@ -10,7 +10,7 @@ loop-value-preserved c =
     let i = l.value-index in
     let words = c.args.words.now in
     let one = λ (w : ℕ). codes " " ++ word_text w in
-    c.in-ok-write.ensures.bytes
+    c.in_ok-write.ensures.bytes
     ∙ ap (λ b. b ++ one (get_or words i 0)) l.invariant
     ∙ flat_map_more one start (take i words) (get_or words i 0)
     ∙ ap (λ ws. start ++ words_text ws) (sym (take_more words i 0 c.loop-value-test.true))
