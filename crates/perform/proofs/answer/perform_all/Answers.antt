@@ -13,7 +13,7 @@ loop-call-preserved g c =
     let l = c.loop-call in
     let calls = c.args.calls.now in
     let i = l.call-index in
-    let step = g.B.Bus.steps g.Chart.Chart.classed g.Chart.Chart.resets in
+    let step = g.B.Bus.steps g.B.Chart.Chart.classed g.B.Chart.Chart.resets in
     let trace = g.B.Bus.trace in
     let before = map seen (vec_items l.outcomes) in
     let rest = map asked (drop (i + 1) calls) in
@@ -33,7 +33,7 @@ loop-call-preserved g c =
 pub returns : goal.returns
 returns g c =
     let l = c.loop-call in
-    let step = g.B.Bus.steps g.Chart.Chart.classed g.Chart.Chart.resets in
+    let step = g.B.Bus.steps g.B.Chart.Chart.classed g.B.Chart.Chart.resets in
     let trace = g.B.Bus.trace in
     let before = map seen (vec_items l.outcomes) in
     let here = g.B.Bus.model l.bus in

@@ -21,8 +21,8 @@ loop-call-init c =
       (λ i. string_bytes c.args.out.now ++ calls_lines c.args.events.now 0 0 (map asked (first i)) (map seen (second i))),
     )
 
-pub overflow-add-number : goal.overflow-add-number
-overflow-add-number c = omega (arith, c.loop-call.invariant.2, ap length c.in-Some.ensures.steps.0, c.iter.ensures.bound, c.iter.ensures.len)
+pub overflow_add-number : goal.overflow_add-number
+overflow_add-number c = omega (arith, c.loop-call.invariant.2, ap length c.in-Some.ensures.steps.0, c.iter.ensures.bound, c.iter.ensures.len)
 
 pub loop-call-preserved : goal.loop-call-preserved
 loop-call-preserved c =

@@ -3,8 +3,8 @@ use Rattle.std.proofs.lemmas.List.{at_drop_more, at_drop_all}
 use Rattle.chip.specs.Words.{rising, all_stored}
 use Rattle.window.proofs.window.store_burst.Goals as goal
 
-pub overflow-add-at : goal.overflow-add-at
-overflow-add-at c = omega arith
+pub overflow_add-at : goal.overflow_add-at
+overflow_add-at c = omega arith
 
 pub loop-word-preserved : goal.loop-word-preserved
 loop-word-preserved c =

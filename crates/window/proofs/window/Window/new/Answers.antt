@@ -7,4 +7,4 @@ use Rattle.window.proofs.window.Window.new.Goals as goal
 pub returns : goal.returns
 returns g c =
     let size = eqb-true _ 129 (sym c.if-not-fits.ensures) in
-    (size, ap (λ ws. window_of ws true) (c.reset.ensures ∙ ap (fresh g.row.C-Chart.resets) size))
+    (size, ap (λ ws. window_of ws true) (c.reset.ensures ∙ ap (fresh g.C.Chart.resets) size))
