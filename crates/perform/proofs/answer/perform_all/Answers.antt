@@ -6,7 +6,7 @@ use Rattle.perform.proofs.Walking.{continued, one_more}
 use Rattle.perform.proofs.answer.perform_all.Goals as goal
 
 pub push_reserved-requires : goal.push_reserved-requires
-push-reserved-requires g c = omega (arith, c.loop-call.invariant.0, c.loop-call.invariant.1, c.loop-call-test.true)
+push_reserved-requires g c = omega (arith, c.loop-call.invariant.0, c.loop-call.invariant.1, c.loop-call-test.true)
 
 pub loop-call-preserved : goal.loop-call-preserved
 loop-call-preserved g c =
