@@ -12,8 +12,6 @@ use i2c_target::event::Event;
 use perform::answer::{Answer, Outcome};
 use sheet::Call;
 use std::alloc::{AllocError, Global};
-use std::fmt;
-use std::fmt::Write;
 
 fn name_of(refusal: &Refusal<Failure>) -> &'static str
     ensures { result.now ≡ refusal_name (told failure_values refusal.now).number }
@@ -31,7 +29,7 @@ fn name_of(refusal: &Refusal<Failure>) -> &'static str
 }
 
 // What a failed transfer tells.
-fn write_failure(out: &mut String, refusal: Refusal<Failure>) -> fmt::Result
+fn write_failure(out: &mut String, refusal: Refusal<Failure>) -> Result<(), AllocError>
     ensures { Adds result out.old (values_text (told failure_values refusal).values) out.new }
 {
     if let Refusal::Line(failure) = refusal {
@@ -42,7 +40,7 @@ fn write_failure(out: &mut String, refusal: Refusal<Failure>) -> fmt::Result
     Ok(())
 }
 
-fn write_refusal(out: &mut String, refusal: Refusal<Failure>) -> fmt::Result
+fn write_refusal(out: &mut String, refusal: Refusal<Failure>) -> Result<(), AllocError>
     ensures { Adds result out.old (refusal_text (told failure_values refusal)) out.new }
 {
     let number = refusal.number();
@@ -51,7 +49,7 @@ fn write_refusal(out: &mut String, refusal: Refusal<Failure>) -> fmt::Result
     write_failure(out, refusal)
 }
 
-fn write_answer(out: &mut String, answer: Answer) -> fmt::Result
+fn write_answer(out: &mut String, answer: Answer) -> Result<(), AllocError>
     ensures { Adds result out.old (reply_text (answer_reply answer)) out.new }
 {
     match answer {
@@ -64,7 +62,7 @@ fn write_answer(out: &mut String, answer: Answer) -> fmt::Result
     }
 }
 
-fn write_words(out: &mut String, words: &[u16]) -> fmt::Result
+fn write_words(out: &mut String, words: &[u16]) -> Result<(), AllocError>
     ensures { Adds result out.old (words_text words.now) out.new }
 {
     for value in words {
@@ -74,7 +72,7 @@ fn write_words(out: &mut String, words: &[u16]) -> fmt::Result
     Ok(())
 }
 
-fn write_call(out: &mut String, call: &Call) -> fmt::Result
+fn write_call(out: &mut String, call: &Call) -> Result<(), AllocError>
     ensures { Adds result out.old (call_text (asked call.now)) out.new }
 {
     match call {
@@ -93,7 +91,7 @@ fn write_call(out: &mut String, call: &Call) -> fmt::Result
 }
 
 // One event; `begun` says whether its transfer has started, so that a further start is a repeated one.
-fn write_event(out: &mut String, event: Event, begun: bool) -> fmt::Result
+fn write_event(out: &mut String, event: Event, begun: bool) -> Result<(), AllocError>
     ensures { Adds result out.old (event_text begun event) out.new }
 {
     match event {
@@ -119,7 +117,7 @@ fn goes_on(event: Event) -> bool
 }
 
 // A line for each transfer.
-fn write_frames(out: &mut String, events: &[Event]) -> fmt::Result
+fn write_frames(out: &mut String, events: &[Event]) -> Result<(), AllocError>
     ensures { Adds result out.old (events_text false events.now) out.new }
 {
     let mut begun = false;
@@ -148,7 +146,7 @@ fn write_one(
     call: &Call,
     answer: Answer,
     events: &[Event],
-) -> fmt::Result
+) -> Result<(), AllocError>
     ensures { Adds result out.old (call_lines number (asked call.now) (answer_reply answer) events.now) out.new }
 {
     write!(out, "{number} ")?;
@@ -164,7 +162,7 @@ fn write_calls(
     events: &[Event],
     calls: &[Call],
     outcomes: &[Outcome],
-) -> fmt::Result
+) -> Result<(), AllocError>
     ensures { Adds result out.old (calls_lines events.now 0 0 (map asked calls.now) (map seen outcomes.now)) out.new }
 {
     let mut passed = 0;
@@ -178,7 +176,7 @@ fn write_calls(
     Ok(())
 }
 
-fn write_full(out: &mut String, full: bool) -> fmt::Result
+fn write_full(out: &mut String, full: bool) -> Result<(), AllocError>
     ensures { Adds result out.old (full_text full) out.new }
 {
     if full {
@@ -187,13 +185,13 @@ fn write_full(out: &mut String, full: bool) -> fmt::Result
     Ok(())
 }
 
-fn write_tally(out: &mut String, calls: usize, failed: u64) -> fmt::Result
+fn write_tally(out: &mut String, calls: usize, failed: u64) -> Result<(), AllocError>
     ensures { Adds result out.old (tally_text calls failed) out.new }
 {
     writeln!(out, "calls {calls}, failed transfers {failed}")
 }
 
-fn write_all<B: Bus>(out: &mut String, bus: &B, calls: &[Call], outcomes: &[Outcome]) -> fmt::Result
+fn write_all<B: Bus>(out: &mut String, bus: &B, calls: &[Call], outcomes: &[Outcome]) -> Result<(), AllocError>
     ensures { Adds result out.old (transcript_text (B.Bus.trace (B.Bus.model bus.now)) (B.Bus.chip (B.Bus.model bus.now)).failed (map asked calls.now) (map seen outcomes.now)) out.new }
 {
     write_calls(out, bus.events(), calls, outcomes)?;
@@ -211,10 +209,8 @@ pub fn written<B: Bus>(
     ensures { IfOk result (λ t. string_bytes t ≡ transcript_text (B.Bus.trace (B.Bus.model bus.now)) (B.Bus.chip (B.Bus.model bus.now)).failed (map asked calls.now) (map seen outcomes.now)) }
 {
     let mut out = String::new(heap);
-    match write_all(&mut out, bus, calls, outcomes) {
-        Ok(()) => Ok(out),
-        Err(_) => Err(AllocError),
-    }
+    write_all(&mut out, bus, calls, outcomes)?;
+    Ok(out)
 }
 
 // The whole answer where no bus is made.
@@ -222,11 +218,7 @@ pub fn unmade(heap: Global, refusal: Refusal<Failure>) -> Result<String, AllocEr
     ensures { IfOk result (λ t. string_bytes t ≡ unmade_text (told failure_values refusal)) }
 {
     let mut out = String::from_str(heap, "bus: ")?;
-    match write_refusal(&mut out, refusal) {
-        Ok(()) => {
-            out.push('\n')?;
-            Ok(out)
-        }
-        Err(_) => Err(AllocError),
-    }
+    write_refusal(&mut out, refusal)?;
+    out.push('\n')?;
+    Ok(out)
 }

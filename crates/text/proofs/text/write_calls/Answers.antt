@@ -12,7 +12,7 @@ use Rattle.text.proofs.text.write_calls.Goals as goal
 
 pub loop-call-init : goal.loop-call-init
 loop-call-init c =
-    let made = c.into-iter-call-iterator.ensures.into-iter-gives in
+    let made = c.into_iter-call-iterator.ensures.into_iter_gives in
     let first = ap (λ z. iter_rest (zip_first z)) made ∙ ap iter_rest c.zip-call-items.ensures.first ∙ c.iter.ensures.rest in
     let second = ap (λ z. iter_rest (zip_second z)) made ∙ c.zip-call-items.ensures.second.0 in (
       search rules,
