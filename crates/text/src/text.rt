@@ -191,7 +191,12 @@ fn write_tally(out: &mut String, calls: usize, failed: u64) -> Result<(), AllocE
     writeln!(out, "calls {calls}, failed transfers {failed}")
 }
 
-fn write_all<B: Bus>(out: &mut String, bus: &B, calls: &[Call], outcomes: &[Outcome]) -> Result<(), AllocError>
+fn write_all<B: Bus>(
+    out: &mut String,
+    bus: &B,
+    calls: &[Call],
+    outcomes: &[Outcome],
+) -> Result<(), AllocError>
     ensures { Adds result out.old (transcript_text (B.Bus.trace (B.Bus.model bus.now)) (B.Bus.chip (B.Bus.model bus.now)).failed (map asked calls.now) (map seen outcomes.now)) out.new }
 {
     write_calls(out, bus.events(), calls, outcomes)?;
