@@ -1,5 +1,5 @@
 -- What a patch does to a word bit by bit, and so that a joined patch does what its two parts do. Assumes nothing.
-use Rattle.std.proofs.Common.{◌≡◌, ℕ, ◌-◌, ◌%◌, ◌^◌, ◌<◌, min, max, true, sym, refl, ap, ◌∙◌, ap₂, inl, inr, arith}
+use Rattle.std.proofs.Common.{◌≡◌, ℕ, ◌-◌, ◌^◌, ◌<◌, min, max, sym, refl, ap, ◌∙◌, ap₂, inl, inr, arith}
 use lib.Bits.{bit_and, bit_or, and_le_r, and_mask, and_zero_r, or_zero_r, or_lt}
 use Rattle.std.proofs.lemmas.Bool.{eqb-true}
 use Rattle.chart.specs.Patch.{bit, acted, joined, idle, complete, ActsByBits, JoinActs, JoinExample, Idles, Completes}

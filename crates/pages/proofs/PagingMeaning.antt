@@ -1,5 +1,5 @@
 -- Paging over a bus that has the meaning of a bus has the meaning of a port. Assumes nothing.
-use Rattle.std.proofs.Common.{◌≡◌, ℕ, ◌+◌, ◌-◌, ◌%◌, ◌^◌, ◌<◌, ◌≤◌, Bool, true, false, cond, eqb, ◌⊎◌, List, [], ◌∷◌, length, get_or, take, Some, None, Option, sym, refl, ap, ◌∙◌, subst, inl, inr, ⊎_elim, add-zero, arith, lit<}
+use Rattle.std.proofs.Common.{◌≡◌, ℕ, ◌+◌, ◌-◌, ◌^◌, ◌<◌, ◌≤◌, Bool, true, false, cond, eqb, ◌⊎◌, List, [], ◌∷◌, length, get_or, take, None, Option, sym, refl, ap, ◌∙◌, subst, inl, inr, ⊎_elim, add-zero, arith}
 use Rattle.std.proofs.lemmas.List.{length-take-le}
 use Rattle.std.proofs.lemmas.Bool.{false≢true, cases_Bool, cases_eq, cases_lt, cond-true, cond-false, eqb-true, eq-eqb, ne_eqb}
 use Rattle.chart.specs.Patch.{acted, idle, complete}
@@ -16,10 +16,10 @@ use Rattle.bus.specs.Checks.{measure_check, unless}
 use Rattle.bus.specs.Meaning.{Steps, BusMeaning}
 use Rattle.bus.proofs.Settled.{refused_by, either_way}
 use Rattle.port.specs.Checks.{read_check, update_check, run_check}
-use Rattle.port.specs.Views.{View, view_of, word_in, Agree, replaced, ran}
-use Rattle.port.specs.Meaning.{PortSteps, PortMeaning, PatchFits, Faulted, Stood, Failed, SettingRead, LiveRead, Updated, Ran, NewView, Measured, WentDown, CameUp}
-use Rattle.port.proofs.Settled.{no_setting_live, no_setting_absent, no_live_absent, read_settled, update_settled, measure_settled, RunSettled, run_settled, in_chart, setting_in_chart, run_in_chart}
-use Rattle.pages.specs.Machine.{PagingModel, PagingSound, PagingNew, Believed, paged, located, onward, fetched, piece_sent, rewritten, update_sent, run_sent, paging_steps, paging_shown}
+use Rattle.port.specs.Views.{View, view_of, Agree, replaced, ran}
+use Rattle.port.specs.Meaning.{PortSteps, PortMeaning, PatchFits, Stood, Failed, SettingRead, LiveRead, Updated, Ran, NewView, Measured, WentDown, CameUp}
+use Rattle.port.proofs.Settled.{no_setting_live, no_setting_absent, no_live_absent, read_settled, update_settled, measure_settled, run_settled, in_chart, setting_in_chart, run_in_chart}
+use Rattle.pages.specs.Machine.{PagingModel, PagingSound, PagingNew, Believed, paged, located, fetched, piece_sent, rewritten, update_sent, run_sent, paging_steps, paging_shown}
 use Rattle.pages.proofs.Storing.{set_replaces, ran_outside, ran_part}
 use Rattle.pages.proofs.Sending.{Left, Broken, Fetches, StoresOver, Stores, word, awake_at, onward_goes, onward_stops, unmoved, stores_on, fetches, piece_stores, run_stores}
 

@@ -1,12 +1,12 @@
 -- What paging's transfers leave, from the meaning of the bus alone. Assumes nothing.
-use Rattle.std.proofs.Common.{◌≡◌, ℕ, zero, suc, ◌+◌, ◌-◌, ◌*◌, ◌/◌, ◌%◌, ◌^◌, ◌<◌, ◌≤◌, Bool, true, false, cond, ◌||◌, eqb, ltb, leb, ◌⊎◌, List, [], ◌∷◌, ◌++◌, length, get_or, take, drop, set, Some, None, Option, sym, refl, ap, ◌∙◌, subst, inl, inr, ⊎_elim, add-zero, add_assoc, arith}
+use Rattle.std.proofs.Common.{◌≡◌, ℕ, ◌+◌, ◌-◌, ◌%◌, ◌<◌, ◌≤◌, true, false, cond, eqb, ltb, leb, ◌⊎◌, List, [], ◌∷◌, ◌++◌, length, get_or, take, drop, Some, None, Option, sym, refl, ap, ◌∙◌, subst, inl, inr, ⊎_elim, add-zero, add_assoc, arith}
 use lib.Seq.{take-append-add}
 use Rattle.std.proofs.lemmas.List.{get_or-set_same, get_or-set_other, length-take-le, length-append, length-drop, take-append-le, take-append-drop}
-use Rattle.std.proofs.lemmas.Bool.{cases_Bool, cases_lt, or_cases, ltb-true, eqb-true, leb-true, leb-false, cond-true, cond-false, le-ltb, ne_eqb}
+use Rattle.std.proofs.lemmas.Bool.{cases_Bool, or_cases, ltb-true, eqb-true, leb-true, leb-false, cond-true, cond-false}
 use Rattle.std.proofs.lemmas.Bool.Decides.{nat_tests}
 use Rattle.chart.specs.Replies.{Reply, accepted, refused}
 use Rattle.chart.specs.declared.class.Class.{Class}
-use Rattle.chip.specs.Words.{selector, loaded, rising, all_stored, Fit}
+use Rattle.chip.specs.Words.{selector, rising, all_stored, Fit}
 use Rattle.chip.proofs.Soundness.{take_fits, drop_fits, one_fits}
 use Rattle.bus.specs.Chips.{Chip}
 use Rattle.bus.specs.Checks.{get_check, put_check}
