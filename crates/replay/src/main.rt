@@ -1,11 +1,11 @@
+// Reads a bench sheet from standard input, performs it, and prints its transcript.
 #![tactic(auto)]
 
-// Reads a bench sheet from standard input, performs it, and prints its transcript.
-use anyhow::anyhow;
 use std::io::Read;
+use std::process::ExitCode;
 use transcript::transcript;
 
-fn main(rt: HostRuntime) -> anyhow::Result<()> {
+fn main(rt: HostRuntime) -> anyhow::Result<ExitCode> {
     let heap = rt.alloc();
     let mut text = Vec::new(heap);
     let _ = rt.stdin().read_to_end(&mut text)?;
@@ -13,11 +13,11 @@ fn main(rt: HostRuntime) -> anyhow::Result<()> {
         Ok(sheet) => {
             let out = transcript(heap, &sheet)?;
             rt.print(out.as_str())?;
-            Ok(())
+            Ok(ExitCode::SUCCESS)
         }
         Err(fault) => {
             eprintln!(rt; "{fault}")?;
-            Err(anyhow!("the sheet is not performed"))
+            Ok(ExitCode::FAILURE)
         }
     }
 }

@@ -1,5 +1,3 @@
-#![tactic(auto)]
-
 // Reads a bench sheet into typed values, or names its first mistake by its line. Nothing is performed here.
 //
 // A sheet has one statement to a line. `#` begins a comment, which runs to the end of its line. Words stand apart by spaces,
@@ -17,6 +15,8 @@
 // The first three open a sheet, in any order, and come before the first call. Of the mistakes of one line the one that is
 // told is the first of: an unknown statement, the number of its words, its words from left to right, and its place in the sheet.
 // The make of a bus comes before the number of words, which it decides.
+#![tactic(auto)]
+
 ghost use Rattle.std.specs.Prelude.{◌≡◌};
 ghost use Rattle.sheet.specs.Sheets.{at_line, sheet_of, Reads};
 ghost use Rattle.sheet.specs.declared.LineError.TheVariants.{Memory, Wrong};

@@ -1,6 +1,6 @@
+// Sheets with their transcripts, and sheets with their first mistake. All of them were worked out by hand.
 #![tactic(auto)]
 
-// Sheets with their transcripts, and sheets with their first mistake. All of them were worked out by hand.
 #[cfg(test)]
 mod mistakes;
 #[cfg(test)]

@@ -1,6 +1,6 @@
+// Performs a bench sheet on a simulated chip, and writes down what each call answered and what passed on the wire.
 #![tactic(auto)]
 
-// Performs a bench sheet on a simulated chip, and writes down what each call answered and what passed on the wire.
 ghost use Rattle.std.specs.Prelude.{◌≡◌, map, IfSome, IfOk, string_bytes};
 ghost use Rattle.sheet.specs.Said.{asked};
 ghost use Rattle.sheet.specs.Sheets.{whole};

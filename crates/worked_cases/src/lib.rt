@@ -1,6 +1,6 @@
+// Worked cases, as one statement about the definitions that the contracts use.
 #![tactic(auto)]
 
-// Worked cases, as one statement about the definitions that the contracts use.
 ghost use Rattle.worked_cases.specs.Cases.{WorkedCases};
 
 pub fn worked_cases_hold()
