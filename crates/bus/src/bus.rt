@@ -43,7 +43,7 @@ pub trait Bus {
     fn put(&mut self, raw: u16, words: &[u16]) -> Result<(), Refusal<Failure>>
         ensures { (reply no_value result, model self.new) ≡ (steps Self.Chart.Chart.classed Self.Chart.Chart.resets).put (model self.old) raw words.now };
 
-    // The chip's own act: with the supply on it puts a word into a live register.
+    // The chip measures: the word goes into a live register if the supply is on, and nowhere else.
     fn measure(&mut self, register: u16, word: u16) -> Result<(), Refusal<Failure>>
         ensures { (reply no_value result, model self.new) ≡ (steps Self.Chart.Chart.classed Self.Chart.Chart.resets).measure (model self.old) register word };
 

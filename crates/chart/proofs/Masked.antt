@@ -28,12 +28,12 @@ module _ (p later : Patch) (hp : p.mask < 2 ^ 16) (hl : later.mask < 2 ^ 16) whe
       let mask = or_bit p.mask later.mask k in
       let whole = acts_by_bits (joined p later) word joined_fits k hk in
       let first = acts_by_bits p word hp k hk in
-      let on-bits = acts_by_bits later p.bits hl k hk in
+      let on_bits = acts_by_bits later p.bits hl k hk in
       let on_word = acts_by_bits later (acted p word) hl k hk in
       elim (bit_cases later.mask k) [
-        | inl one ↦ whole.0 (omega arith) ∙ on-bits.0 one ∙ sym (on_word.0 one)
+        | inl one ↦ whole.0 (omega arith) ∙ on_bits.0 one ∙ sym (on_word.0 one)
         | inr none ↦ elim (bit_cases p.mask k) [
-          | inl one ↦ whole.0 (omega arith) ∙ on-bits.1 none ∙ sym (on_word.1 none ∙ first.0 one)
+          | inl one ↦ whole.0 (omega arith) ∙ on_bits.1 none ∙ sym (on_word.1 none ∙ first.0 one)
           | inr neither ↦ whole.1 (omega arith) ∙ sym (on_word.1 none ∙ first.1 neither)
         ]
       ]

@@ -210,8 +210,8 @@ module _ {count : ℕ} {class : ℕ → Class} {reset : ℕ → ℕ} (rules : Ch
 
   new_sound : (m : P) → PagingNew New m → PagingSound chip Sound m
   new_sound m (new, page) =
-      let zero-page = ap (λ (c : Chip). selector c.words) (bus.new m.bus new) ∙ bus.first_page in
-      (bus.new_sound m.bus new, subst (λ q. Believed q (selector (chip m.bus).words)) (sym page) (sym zero-page))
+      let zero_page = ap (λ (c : Chip). selector c.words) (bus.new m.bus new) ∙ bus.first_page in
+      (bus.new_sound m.bus new, subst (λ q. Believed q (selector (chip m.bus).words)) (sym page) (sym zero_page))
 
   module _ (m : P) (n w : ℕ) (sound : PagingSound chip Sound m) (goes : measure_check (class n) ≡ None) where
     after : M

@@ -61,11 +61,11 @@ pub trait Port {
     fn update(&mut self, register: u16, patch: Patch) -> Result<(), Refusal<Fault>>
         ensures { (port_reply no_value result, model self.new) ≡ (steps Self.Chart.Chart.classed Self.Chart.Chart.resets).update (model self.old) register patch };
 
-    // Sets consecutive settings. Only layers call it.
+    // Several settings in a row, each to its own word. It is there for a port that stands on this one.
     fn run(&mut self, first: u16, words: &[u16]) -> Result<(), Refusal<Fault>>
         ensures { (port_reply no_value result, model self.new) ≡ (steps Self.Chart.Chart.classed Self.Chart.Chart.resets).run (model self.old) first words.now };
 
-    // The chip's own act: with the supply on it puts a word into a live register.
+    // The chip measures: the word goes into a live register if the supply is on, and nowhere else.
     fn measure(&mut self, register: u16, word: u16) -> Result<(), Refusal<Fault>>
         ensures { (port_reply no_value result, model self.new) ≡ (steps Self.Chart.Chart.classed Self.Chart.Chart.resets).measure (model self.old) register word };
 

@@ -4,7 +4,7 @@ use Rattle.std.proofs.lemmas.Bool.{cond_both}
 use Rattle.std.proofs.lemmas.List.{nil_from_length}
 use Rattle.sheet.specs.declared.Mistake.{Mistake}
 use Rattle.sheet.specs.declared.LineError.{LineError}
-use Rattle.sheet.specs.declared.LineError.TheVariants as line-error
+use Rattle.sheet.specs.declared.LineError.TheVariants as line_error
 use Rattle.sheet.specs.Said.{Gives}
 use Rattle.sheet.specs.Sheets.{Sofar, Whole, after_line, finished, onward, read_from, at_line, Reads}
 use Rattle.sheet.specs.Cut.{before, after, lines_of, lines_after}
@@ -35,8 +35,8 @@ pub at_next_line : (o : Result Whole (ℕ × Mistake)) (s this rest : List ℕ) 
 at_next_line o s this rest n d old some f g = old ∙ ap (λ l. read_from l n d) (first_line s some ∙ (λ i. sym f i ∷ lines_of (sym g i)))
 
 pub stops : (o : Result Whole (ℕ × Mistake)) (n : ℕ) (next : Sofar → Result Whole (ℕ × Mistake)) (r : Result Sofar Mistake) (e : LineError) (d : Sofar) → o ≡ onward n next r → Gives {X = Unit {0}} (λ _. d) (Err e) r → Reads (Err (at_line n e)) o
-stops o n next r line-error.Memory d old h = tt
-stops o n next r (line-error.Wrong m) d old h = old ∙ ap (onward n next) h
+stops o n next r line_error.Memory d old h = tt
+stops o n next r (line_error.Wrong m) d old h = old ∙ ap (onward n next) h
 
 pub goes : (o : Result Whole (ℕ × Mistake)) (n : ℕ) (next : Sofar → Result Whole (ℕ × Mistake)) (r : Result Sofar Mistake) (d : Sofar) → o ≡ onward n next r → r ≡ Ok d → o ≡ next d
 goes o n next r d old h = old ∙ ap (onward n next) h

@@ -11,7 +11,7 @@ use Rattle.sheet.specs.declared.Mistake.{Mistake}
 use Rattle.sheet.specs.declared.Mistake.TheVariants.{SecondBus, SecondChart, LateOpening, NoBus, MarksOnWindow}
 use Rattle.sheet.specs.declared.Sheet.{Sheet}
 use Rattle.sheet.specs.declared.LineError.{LineError}
-use Rattle.sheet.specs.declared.LineError.TheVariants as line-error
+use Rattle.sheet.specs.declared.LineError.TheVariants as line_error
 use Rattle.sheet.specs.declared.draft.Draft.{Draft}
 use Rattle.sheet.specs.Cut.{before, words_of, lines_of}
 use Rattle.sheet.specs.Said.{Asked, Said, bus, chart, marks, call, asked, statement_named}
@@ -113,8 +113,8 @@ abbrev pub sheet_of : List ℕ → Result Whole (ℕ × Mistake)
 sheet_of text = read_from (lines_of text) 1 blank_sheet
 
 abbrev pub at_line : ℕ → LineError → Fault
-at_line n line-error.Memory = Memory
-at_line n (line-error.Wrong m) = Wrong n m
+at_line n line_error.Memory = Memory
+at_line n (line_error.Wrong m) = Wrong n m
 
 -- r is the answer o, unless memory failed
 abbrev pub Reads : Result Sheet Fault → Result Whole (ℕ × Mistake) → Type 0

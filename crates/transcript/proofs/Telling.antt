@@ -31,7 +31,7 @@ window_told class reset cs ds m (Ok t) new same h = h ∙ ap₂ (played (window_
 window_told class reset cs ds m (Err e) new same h = tt
 
 -- a sheet's make and chart, once they are known
-pub sheet_told : {Z E : Type 0} {make given-make : Make} {name given-name : ChartName} (marks : List ℕ) (cs : List Asked) (r : Result (String Z) E)
-    → make ≡ given-make → name ≡ given-name
-    → IfOk r (λ t. make_tells given-make given-name marks cs (string_bytes t)) → IfOk r (λ t. make_tells make name marks cs (string_bytes t))
+pub sheet_told : {Z E : Type 0} {make given_make : Make} {name given_name : ChartName} (marks : List ℕ) (cs : List Asked) (r : Result (String Z) E)
+    → make ≡ given_make → name ≡ given_name
+    → IfOk r (λ t. make_tells given_make given_name marks cs (string_bytes t)) → IfOk r (λ t. make_tells make name marks cs (string_bytes t))
 sheet_told marks cs r e f h = subst₂ (λ m n. IfOk r (λ t. make_tells m n marks cs (string_bytes t))) (sym e) (sym f) h

@@ -101,7 +101,7 @@ other_catches t a raw mark ws ha ht ne = ⊎_elim first rest (cases_Bool (eqb ma
     rest : eqb mark 1 ≡ false → Goal
     rest e =
         let mine : write_byte t.address ≡ t.address * 2 = seven_bits t.address ht in
-        let sent-to : write_byte a ≡ a * 2 = seven_bits a ha in
+        let sent_to : write_byte a ≡ a * 2 = seven_bits a ha in
         let no_write : eqb (write_byte a) (write_byte t.address) ≡ false = ne_eqb _ _ (λ same. ne (omega arith)) in
         let no_read : eqb (write_byte a) (read_byte t.address) ≡ false = ne_eqb _ _ (λ same. odd a t.address (omega arith)) in
         rw (e, no_write, no_read) (idle_catches (raw ∷ word_bytes ws) (mark - 1) t)
