@@ -25,7 +25,7 @@ JOINED = {
 # a lemma that would fall together with a definition
 OTHER = {"at-line": "at_next_line"}
 # names that Rattle makes, in the files of one function's proof
-MADE = re.compile(r"^(loop|returns|invariant|decreases|overflow|bounds|slice_bounds|prove)-|-requires(-\d+)?$")
+MADE = re.compile(r"^(loop|returns|invariant|decreases|overflow(?:_\w+)?|bounds|slice_bounds|prove)-|-requires(-\d+)?$")
 START = re.compile(r"^\s*(?:(?:abbrev|unfoldable|pub)\s+)*([A-Za-z][^\s:(){}.;,]*)\s+:\s")
 RECORD = re.compile(r"^\s*(?:pub\s+)?(?:record|data|module)\s+([A-Za-z][^\s:(){}.;,]*)")
 # part of a name
