@@ -34,8 +34,8 @@ i2c_of l on w = record { line = l; supply = on; wire = w }
 abbrev pub new_i2c : (ℕ → ℕ) → ℕ → List ℕ → Traced → I2cModel
 new_i2c reset a marks tr = i2c_of (record { marks = marks; failed = 0 }) true (new_wired reset a tr)
 
--- The cause of a failure is 1 at an address byte and 2 at another. A put has an address in its first byte,
--- a get in its first and its third.
+-- Why a transfer failed: 1 says that an address was not acknowledged, 2 that something else was not. A put has an
+-- address in its first byte, a get in its first and its third.
 abbrev pub put_cause : ℕ → ℕ
 put_cause mark = cond (mark == 1) 1 2
 

@@ -6,7 +6,7 @@ use Rattle.chip.specs.Words.{selector, loaded, rising, all_stored, fresh, Fit, W
 use Rattle.bus.specs.Chips.{Chip, new_chip, with_words, failed_with, measured, powered_down, powered_up}
 use Rattle.bus.specs.Checks.{get_check, put_check, measure_check}
 
--- one function for each call, from a bus's model and the arguments to the reply and the next model
+-- each call of a bus: given the model before it and what it was called with, the reply and the model after it
 pub record Steps (M : Type 0) : Type 0 where
   pub get : M → ℕ → Reply × M
   pub put : M → ℕ → List ℕ → Reply × M

@@ -1,4 +1,4 @@
--- How the target moves, by its own state and the next event. Assumes nothing.
+-- The target's machine: what an event makes of its state, and of the chip's words. Assumes nothing.
 use Rattle.std.specs.Prelude.{ℕ, ◌+◌, ◌*◌, ◌/◌, ◌%◌, Bool, cond, List, [], ◌∷◌, ◌==◌}
 use Rattle.chip.specs.Words.{loaded, all_stored}
 use Rattle.i2c_target.specs.declared.event.Event.{Event}

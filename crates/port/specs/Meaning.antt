@@ -10,7 +10,7 @@ use Rattle.bus.specs.Checks.{measure_check}
 use Rattle.port.specs.Checks.{read_check, update_check, run_check}
 use Rattle.port.specs.Views.{View, Agree, replaced, ran}
 
--- one function for each call, from a port's model and the arguments to the reply and the next model
+-- each call of a port: given the model before it and what it was called with, the reply and the model after it
 pub record PortSteps (M : Type 0) : Type 0 where
   pub read : M → ℕ → Reply × M
   pub update : M → ℕ → Patch → Reply × M

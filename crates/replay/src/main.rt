@@ -1,4 +1,4 @@
-// Reads a bench sheet from standard input, performs it, and prints its transcript.
+// Takes a bench sheet on standard input and prints its transcript.
 #![tactic(auto)]
 
 use std::io::Read;
