@@ -1,9 +1,8 @@
 -- What is refused before anything is sent, the first in order. Assumes nothing.
-use Rattle.std.specs.Prelude.{ℕ, ◌+◌, Bool, cond, ◌||◌, [], Some, None, Option, ◌==◌, nat_lt}
-use Rattle.chart.specs.Replies.{Reply, refused, told, failure_values}
+use Rattle.std.specs.Prelude.{ℕ, ◌+◌, Bool, cond, ◌||◌, [], Some, None, Option, ◌==◌, nat_lt, List, Ok, Err, Result}
+use Rattle.chart.specs.Replies.{Reply, refused, told}
 use Rattle.chart.specs.declared.class.Class.{Class}
 use Rattle.chart.specs.declared.class.Class.TheVariants.{Absent, Setting, Live}
-use Rattle.chart.specs.declared.refusal.Failure.{Failure}
 use Rattle.chart.specs.declared.refusal.Refusal.{Refusal}
 
 -- the supply is off
@@ -23,9 +22,10 @@ measure_check Absent = Some (refused 2 [])
 measure_check Setting = Some (refused 4 [])
 measure_check Live = None
 
-abbrev pub checked : Option (Refusal Failure) → Option Reply
-checked (Some e) = Some (told failure_values e)
-checked None = None
+-- the refusal that a check answered, if it answered one
+abbrev pub checked : {F : Type 0} → (F → List ℕ) → Result (Unit {0}) (Refusal F) → Option Reply
+checked tells (Ok _) = None
+checked tells (Err e) = Some (told tells e)
 
 -- a refusal changes nothing; else the call goes on
 abbrev pub unless : {M : Type 0} → Option Reply → M → Reply × M → Reply × M

@@ -1,42 +1,43 @@
-// What a call on a bus is refused for before anything is sent, in the order in which refusals win.
+// What a call on a bus is refused for before anything is sent, in the order in which refusals win. Such a refusal tells of no
+// transfer, so that it serves a bus and a port alike.
 ghost use Rattle.std.specs.Prelude.{◌≡◌};
 ghost use Rattle.bus.specs.Checks.{checked, get_check, put_check, measure_check};
 
-use chart::class::{Chart, Class};
-use chart::refusal::{Failure, Refusal};
+use chart::class::Class;
+use chart::refusal::{Refusal, Tells};
 
-pub fn get_refusal(raw: u16, supply: bool) -> Option<Refusal<Failure>>
-    ensures { checked result ≡ get_check raw supply }
+pub fn check_get<F: Tells>(raw: u16, supply: bool) -> Result<(), Refusal<F>>
+    ensures { checked F.values result ≡ get_check raw supply }
 {
     if raw > 63 {
-        Some(Refusal::Register)
+        Err(Refusal::Register)
     } else if !supply {
-        Some(Refusal::Asleep)
+        Err(Refusal::Asleep)
     } else {
-        None
+        Ok(())
     }
 }
 
-pub fn put_refusal(raw: u16, count: usize, supply: bool) -> Option<Refusal<Failure>>
-    ensures { checked result ≡ put_check raw count supply }
+pub fn check_put<F: Tells>(raw: u16, count: usize, supply: bool) -> Result<(), Refusal<F>>
+    ensures { checked F.values result ≡ put_check raw count supply }
 {
     if count == 0 || count > 16 {
-        Some(Refusal::Length)
+        Err(Refusal::Length)
     } else if raw as usize + count > 64 {
-        Some(Refusal::Register)
+        Err(Refusal::Register)
     } else if !supply {
-        Some(Refusal::Asleep)
+        Err(Refusal::Asleep)
     } else {
-        None
+        Ok(())
     }
 }
 
-pub fn measure_refusal<C: Chart>(register: u16) -> Option<Refusal<Failure>>
-    ensures { checked result ≡ measure_check (C.Chart.classed register) }
+pub fn check_measure<F: Tells>(class: Class) -> Result<(), Refusal<F>>
+    ensures { checked F.values result ≡ measure_check class }
 {
-    match C::class(register) {
-        Class::Absent => Some(Refusal::Register),
-        Class::Setting => Some(Refusal::Setting),
-        Class::Live => None,
+    match class {
+        Class::Absent => Err(Refusal::Register),
+        Class::Setting => Err(Refusal::Setting),
+        Class::Live => Ok(()),
     }
 }

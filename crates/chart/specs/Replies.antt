@@ -49,15 +49,18 @@ errand_number Owed = 1
 abbrev pub fault_values : Fault → List ℕ
 fault_values f = cause_number f.cause ∷ f.register ∷ errand_number f.errand ∷ []
 
--- the reply of a bus, where shown gives the values of an acceptance
-abbrev pub reply : {T : Type 0} → (T → List ℕ) → Result T (Refusal Failure) → Reply
-reply shown (Ok v) = accepted (shown v)
-reply shown (Err e) = told failure_values e
+-- The reply of a call, where shown gives the values of an acceptance, and tells those of a failed transfer.
+abbrev pub reply_by : {T F : Type 0} → (F → List ℕ) → (T → List ℕ) → Result T (Refusal F) → Reply
+reply_by tells shown (Ok v) = accepted (shown v)
+reply_by tells shown (Err e) = told tells e
 
--- the reply of a port
+-- of a bus
+abbrev pub reply : {T : Type 0} → (T → List ℕ) → Result T (Refusal Failure) → Reply
+reply shown r = reply_by failure_values shown r
+
+-- of a port
 abbrev pub port_reply : {T : Type 0} → (T → List ℕ) → Result T (Refusal Fault) → Reply
-port_reply shown (Ok v) = accepted (shown v)
-port_reply shown (Err e) = told fault_values e
+port_reply shown r = reply_by fault_values shown r
 
 -- the values of an answered word, and of an answer that says no more than yes
 abbrev pub word_value : ℕ → List ℕ

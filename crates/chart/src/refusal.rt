@@ -1,6 +1,11 @@
 // How a call says no: eight refusals, each with its number.
-ghost use Rattle.std.specs.Prelude.{◌≡◌, []};
-ghost use Rattle.chart.specs.Replies.{told, cause_number, errand_number};
+ghost use Rattle.std.specs.Prelude.{◌≡◌, ℕ, List, []};
+ghost use Rattle.chart.specs.Replies.{told, cause_number, errand_number, failure_values, fault_values};
+
+// What a failed transfer tells, as numbers: the values of its refusal.
+pub trait Tells {
+    ghost values: { Self → List ℕ };
+}
 
 // `F` is what a failed transfer tells: on a bus a `Failure`, on a port a `Fault`.
 #[derive(Clone, Copy)]
@@ -65,6 +70,10 @@ pub struct Failure {
     pub stored: u8,
 }
 
+impl Tells for Failure {
+    ghost values = { failure_values };
+}
+
 // On whose behalf a port was sending when a transfer failed: what the call asked for, or what was owed from before.
 #[derive(Clone, Copy)]
 pub enum Errand {
@@ -89,4 +98,8 @@ pub struct Fault {
     pub cause: Cause,
     pub register: u16,
     pub errand: Errand,
+}
+
+impl Tells for Fault {
+    ghost values = { fault_values };
 }
