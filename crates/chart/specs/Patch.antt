@@ -1,10 +1,7 @@
 -- What a masked update makes of a word, and which one update two of them come to. Assumes nothing.
-use Rattle.std.specs.Prelude.{◌≡◌, ℕ, ◌-◌, ◌/◌, ◌%◌, ◌^◌, ◌<◌, Bool, true, ◌==◌, bit_and, bit_or}
+use Rattle.std.specs.Prelude.{◌≡◌, ℕ, ◌-◌, ◌^◌, ◌<◌, Bool, true, ◌==◌, bit_and, bit_or}
+use Rattle.std.specs.Int.{bit_at}
 use Rattle.chart.specs.declared.patch.Patch.{Patch}
-
--- bit k of a number, the lowest being bit 0
-abbrev pub bit : ℕ → ℕ → ℕ
-bit n k = n / 2 ^ k % 2
 
 -- the word outside the mask, and the patch's bits under it
 abbrev pub acted : Patch → ℕ → ℕ
@@ -17,7 +14,7 @@ joined p later = record { mask = bit_or p.mask later.mask; bits = acted later p.
 -- bit by bit, r is the patch's bits where the mask has a bit, and the word where it has none
 abbrev pub ActsByBits : Patch → ℕ → ℕ → Type 0
 ActsByBits p word r =
-    (k : ℕ) → k < 16 → (bit p.mask k ≡ 1 → bit r k ≡ bit p.bits k) × (bit p.mask k ≡ 0 → bit r k ≡ bit word k)
+    (k : ℕ) → k < 16 → (bit_at p.mask k ≡ 1 → bit_at r k ≡ bit_at p.bits k) × (bit_at p.mask k ≡ 0 → bit_at r k ≡ bit_at word k)
 
 -- r does to every word what p and then the later patch do
 abbrev pub JoinActs : Patch → Patch → Patch → Type 0

@@ -9,62 +9,42 @@ pub struct Patch {
 }
 
 impl Patch {
-    fn masked(self, word: u16) -> u16
-        ensures { result ≡ acted self word }
-    {
-        (word & !self.mask) | (self.bits & self.mask)
-    }
-
     // What the word becomes. Bits outside the mask are ignored, so two patches that differ only there act alike.
+    #[tactic(auto, using(crate::proofs::Masked::acts_by_bits))]
     pub fn act(self, word: u16) -> u16
         ensures value { result ≡ acted self word }
         ensures bits { ActsByBits self word result }
     {
-        self.masked(word)
-    }
-
-    fn with_later(self, later: Patch) -> Patch
-        ensures { result ≡ joined self later }
-    {
-        Patch {
-            mask: self.mask | later.mask,
-            bits: later.masked(self.bits),
-        }
+        (word & !self.mask) | (self.bits & self.mask)
     }
 
     // The one patch that does what `self` and then `later` do: the later bits lie on top where both masks reach.
+    #[tactic(auto, using(crate::proofs::Masked::join_acts))]
     pub fn join(self, later: Patch) -> Patch
         ensures value { result ≡ joined self later }
         ensures law { JoinActs self later result }
     {
-        self.with_later(later)
-    }
-
-    fn is_mask_empty(self) -> bool
-        ensures { result ≡ idle self }
-    {
-        self.mask == 0
+        Patch {
+            mask: self.mask | later.mask,
+            bits: later.act(self.bits),
+        }
     }
 
     // Whether it leaves every word as it is.
+    #[tactic(auto, using(crate::proofs::Masked::idles))]
     pub fn is_idle(self) -> bool
         ensures value { result ≡ idle self }
         ensures law { Idles self result }
     {
-        self.is_mask_empty()
-    }
-
-    fn is_mask_full(self) -> bool
-        ensures { result ≡ complete self }
-    {
-        self.mask == 0xFFFF
+        self.mask == 0
     }
 
     // Whether it makes the same word of every word, so that the old one need not be known.
+    #[tactic(auto, using(crate::proofs::Masked::completes))]
     pub fn is_complete(self) -> bool
         ensures value { result ≡ complete self }
         ensures law { Completes self result }
     {
-        self.is_mask_full()
+        self.mask == 0xFFFF
     }
 }

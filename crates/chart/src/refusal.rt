@@ -29,6 +29,7 @@ pub enum Refusal<F> {
 }
 
 impl<F> Refusal<F> {
+    // A `match`, since an enum with a value in a variant has no numbers of its own.
     pub fn number(&self) -> u8
         ensures { result ≡ (told (λ _. []) self.now).number }
     {
