@@ -1,18 +1,16 @@
 -- Whatever is stored, a chip's words stay 129 words of 16 bits, and its selector at most 3. Assumes nothing.
-use Rattle.std.proofs.Common.{◌≡◌, ℕ, zero, suc, ◌+◌, ◌*◌, ◌%◌, ◌^◌, ◌<◌, ◌≤◌, true, false, ◌&&◌, eqb, ltb, List, [], ◌∷◌, length, get_or, take, drop, set, sym, ◌∙◌, ⊎_elim, arith, lit<}
-use Rattle.std.proofs.lemmas.List.{length-set, length-take, get_or-set_same, get_or-set_other, set_past, get_or_past, get_or-take, get_or-drop}
+use Rattle.std.proofs.Common.{◌≡◌, ℕ, zero, suc, ◌+◌, ◌*◌, ◌%◌, ◌^◌, ◌<◌, ◌≤◌, true, false, ◌&&◌, eqb, ltb, List, [], ◌∷◌, get_or, take, drop, set, ◌∙◌, ⊎_elim, arith, lit<}
+use Rattle.std.proofs.lemmas.List.{length-set, set_past, get_or_past, get_or-drop}
 use Rattle.std.proofs.lemmas.List.FromFn.{length-map-range_with_len, get_or-map-range_with_len}
-use Rattle.std.proofs.lemmas.Bool.{cases_Bool, cases_eq, cases_lt, ltb-true, and_parts}
+use Rattle.std.proofs.lemmas.Bool.{cases_Bool, cases_lt, ltb-true, and_parts}
+use Rattle.std.proofs.lemmas.Grind.{common_steps, elements}
 use Rattle.chart.specs.declared.class.Class.{Class}
 use Rattle.chart.specs.Rules.{ChartRules}
 use Rattle.chip.specs.Words.{selector, stored_at, rising, all_stored, fresh, Fit, WordsSound}
 
 -- parts of a list of words that fit
 pub take_fits : (k : ℕ) (ws : List ℕ) → Fit ws → Fit (take k ws)
-take_fits k ws fit i = ⊎_elim
-    (λ h. rw (get_or-take k ws i 0 h) (fit i))
-    (λ (h : k ≤ i). rw (get_or_past (take k ws) i 0 (simp length-take (omega arith))) (lit< tt))
-    (cases_lt i k)
+take_fits k ws fit i = grind (arith, common_steps, fit i)
 
 pub drop_fits : (k : ℕ) (ws : List ℕ) → Fit ws → Fit (drop k ws)
 drop_fits k ws fit i = rw (get_or-drop k ws i 0) (fit (k + i))
@@ -23,22 +21,11 @@ one_fits w h (suc k) = lit< tt
 
 -- a word that fits goes into one place, and into the selector only where it is a page or 3
 pub set_sound : (ws : List ℕ) (n w : ℕ) → WordsSound ws → w < 2 ^ 16 → (n ≡ 128 → w ≤ 3) → WordsSound (set ws n w)
-set_sound ws n w s h page = record { size = length-set ws n w ∙ s.size; pages = pages; fit = fit }
-  where
-    pages : selector (set ws n w) ≤ 3
-    pages = ⊎_elim
-        (λ e. rw e (rw (get_or-set_same ws 128 w 0 (omega (arith, s.size))) (page e)))
-        (λ ne. rw (get_or-set_other ws n 128 w 0 (λ e. ne (sym e))) s.pages)
-        (cases_eq n 128)
-
-    fit : Fit (set ws n w)
-    fit k = ⊎_elim
-        (λ e. rw (← e) (⊎_elim
-        (λ within. rw (get_or-set_same ws n w 0 within) h)
-        (λ past. rw (set_past ws n w past) (s.fit n))
-        (cases_lt n (length ws))))
-        (λ ne. rw (get_or-set_other ws n k w 0 (λ e. ne (sym e))) (s.fit k))
-        (cases_eq n k)
+set_sound ws n w s h page = record {
+  size = length-set ws n w ∙ s.size;
+  pages = grind (arith, elements);
+  fit = λ k. grind (arith, elements, set_past, s.fit n, s.fit k);
+}
 
 pub stored_sound : (ws : List ℕ) (raw w : ℕ) → WordsSound ws → w < 2 ^ 16 → WordsSound (stored_at ws raw w)
 stored_sound ws raw w s h = ⊎_elim to_selector (λ e. ⊎_elim (fixed e) (λ f. ⊎_elim (paged e f) (nowhere e f) (cases_Bool (ltb raw 64 && ltb (selector ws) 3))) (cases_Bool (ltb raw 32))) (cases_Bool (eqb raw 0))

@@ -16,8 +16,8 @@ pub fn place_of(selector: u16, raw: u16) -> Option<usize>
 {
     match raw {
         0 => Some(SELECTOR),
-        1..=31 => Some(raw as usize),
-        32..=63 if selector < 3 => Some(raw as usize + 32 * selector as usize),
+        1..=31 => Some(usize::from(raw)),
+        32..=63 if selector < 3 => Some(usize::from(raw + 32 * selector)),
         _ => None,
     }
 }
@@ -26,19 +26,17 @@ pub fn place_of(selector: u16, raw: u16) -> Option<usize>
 fn word_at(words: &[u16], place: usize) -> u16
     ensures { result ≡ slice_index words.now place }
 {
-    if place < words.len() { words[place] } else { 0 }
+    words.get(place).copied().unwrap_or(0)
 }
 
 pub fn load(words: &[u16], raw: u16) -> u16
     ensures { result ≡ loaded words.now raw }
 {
-    match place_of(word_at(words, SELECTOR), raw) {
-        Some(place) => word_at(words, place),
-        None => 0,
-    }
+    place_of(word_at(words, SELECTOR), raw).map_or(0, |place| word_at(words, place))
 }
 
-// Changes the word of a place, and nothing past the end.
+// Changes the word of a place, and nothing past the end. By index, since nothing is known of the other words
+// once what `get_mut` lends is given back.
 fn set_word(words: &mut [u16], place: usize, word: u16)
     ensures { words.new ≡ slice_set words.old place word }
 {
@@ -61,24 +59,21 @@ pub fn store(words: &mut [u16], raw: u16, word: u16)
 pub fn set_register(words: &mut [u16], register: u16, word: u16)
     ensures { words.new ≡ slice_set words.old register word }
 {
-    set_word(words, register as usize, word);
+    set_word(words, usize::from(register), word);
 }
 
 // The reset word of a place; what no register can have as its number is absent.
 fn reset_word<C: Chart>(place: usize) -> u16
     ensures { result ≡ C.Chart.resets place }
 {
-    match u16::try_from(place) {
-        Ok(register) => C::reset(register),
-        Err(_) => 0,
-    }
+    u16::try_from(place).map_or(0, |register| C::reset(register))
 }
 
 // Every word as in a new chip.
 pub fn reset<C: Chart>(words: &mut [u16])
     ensures { words.new ≡ fresh C.Chart.resets (length words.old) }
 {
-    for i in 0..words.len() {
-        words[i] = reset_word::<C>(i);
+    for (place, word) in words.iter_mut().enumerate() {
+        *word = reset_word::<C>(place);
     }
 }
