@@ -1,5 +1,5 @@
 // What passes between controller and target on the two lines. A repeated start is a start.
-#[derive(Clone, Copy)]
+#[derive(Debug, Clone, Copy, PartialEq, Eq)]
 pub enum Event {
     Start,
     // eight bits, from whichever end sends, and the other end's acknowledge bit

@@ -5,7 +5,7 @@ ghost use Rattle.i2c_target.specs.Targets.{write_byte, read_byte, new_target, ad
 use crate::event::Event;
 use chip::memory;
 
-#[derive(Clone, Copy)]
+#[derive(Debug, Clone, Copy, PartialEq, Eq)]
 pub enum State {
     // takes no part
     Idle,
@@ -22,7 +22,7 @@ pub enum State {
     GivingLow,
 }
 
-#[derive(Clone, Copy)]
+#[derive(Debug, Clone, Copy, PartialEq, Eq)]
 pub struct Target {
     pub address: u8,
     pub state: State,
@@ -30,7 +30,8 @@ pub struct Target {
     pub pointer: u8,
 }
 
-// The address byte of a write, and of a read. An address has seven bits.
+// The address byte of a write, and of a read, which is one more. An address has seven bits. Two functions, since
+// one that is told the direction would say no more than their names.
 pub fn write_byte(address: u8) -> u8
     ensures { result ≡ write_byte address }
 {
@@ -40,33 +41,21 @@ pub fn write_byte(address: u8) -> u8
 pub fn read_byte(address: u8) -> u8
     ensures { result ≡ read_byte address }
 {
-    (address << 1) + 1
+    write_byte(address) + 1
 }
 
 // A word from its two bytes.
 pub fn word_of(high: u8, low: u8) -> u16
     ensures { result ≡ high * 256 + low }
 {
-    u16::from(high) * 256 + u16::from(low)
-}
-
-fn high_byte(word: u16) -> u8
-    ensures { result ≡ word / 256 }
-{
-    (word / 256) as u8
-}
-
-fn low_byte(word: u16) -> u8
-    ensures { result ≡ word % 256 }
-{
-    (word % 256) as u8
+    u16::from_be_bytes([high, low])
 }
 
 // A word's two bytes in the order of the wire.
 pub fn bytes_of(word: u16) -> [u8; 2]
     ensures { result ≡ word / 256 ∷ word % 256 ∷ [] }
 {
-    [high_byte(word), low_byte(word)]
+    word.to_be_bytes()
 }
 
 impl Target {
@@ -91,13 +80,7 @@ impl Target {
             (State::Giving, Event::Byte { .. }) => self.state = State::GivingLow,
             (State::GivingLow, Event::Byte { .. }) => self.advance(State::Giving),
             (State::Idle, Event::Byte { .. }) => {}
-            (
-                _,
-                Event::Byte {
-                    acknowledged: false,
-                    ..
-                },
-            ) => {}
+            (_, Event::Byte { acknowledged, .. }) if !acknowledged => {}
             (State::Listening, Event::Byte { value, .. }) => self.state = self.addressed(value),
             (State::Pointing, Event::Byte { value, .. }) => {
                 self.pointer = value % 64;
@@ -115,10 +98,10 @@ impl Target {
     pub fn gives(&self, words: &[u16]) -> u8
         ensures { result ≡ given self.now words.now }
     {
-        let word = memory::load(words, u16::from(self.pointer));
+        let [high, low] = bytes_of(memory::load(words, u16::from(self.pointer)));
         match self.state {
-            State::Giving => high_byte(word),
-            State::GivingLow => low_byte(word),
+            State::Giving => high,
+            State::GivingLow => low,
             _ => 0xff,
         }
     }
@@ -140,7 +123,7 @@ impl Target {
     fn advance(&mut self, state: State)
         ensures { self.new ≡ advanced state self.old }
     {
-        self.pointer = ((u16::from(self.pointer) + 1) % 64) as u8;
+        self.pointer = self.pointer.wrapping_add(1) % 64;
         self.state = state;
     }
 }

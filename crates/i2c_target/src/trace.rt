@@ -9,6 +9,7 @@ use std::alloc::{AllocError, Global};
 #[derive(Drop)]
 pub struct Trace {
     events: Vec<Event>,
+    // that an event found no room, which full `events` do not show
     overrun: bool,
 }
 
@@ -38,7 +39,7 @@ impl Trace {
     pub fn events(&self) -> &[Event]
         ensures { result.now ≡ (traced self.now).events }
     {
-        self.events.as_slice()
+        &self.events
     }
 
     // Whether an event found no room.
