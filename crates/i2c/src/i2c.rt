@@ -9,7 +9,7 @@ ghost use Rattle.i2c.specs.Made.{i2c_model, Addressable, I2cMade};
 
 use crate::line::Line;
 use bus::bus::Bus;
-use bus::checks::{get_refusal, measure_refusal, put_refusal};
+use bus::checks::{check_get, check_measure, check_put};
 use chart::class::Chart;
 use chart::refusal::{Cause, Failure, Refusal};
 use i2c_target::event::Event;
@@ -128,23 +128,17 @@ impl<'a, C: Chart> Bus for I2c<'a, C> {
     ghost meaning = { i2c_meaning };
 
     fn get(&mut self, raw: u16) -> Result<u16, Refusal<Failure>> {
-        if let Some(refusal) = get_refusal(raw, self.supply) {
-            return Err(refusal);
-        }
+        check_get(raw, self.supply)?;
         self.send_get(raw as u8)
     }
 
     fn put(&mut self, raw: u16, words: &[u16]) -> Result<(), Refusal<Failure>> {
-        if let Some(refusal) = put_refusal(raw, words.len(), self.supply) {
-            return Err(refusal);
-        }
+        check_put(raw, words.len(), self.supply)?;
         self.send_put(raw as u8, words)
     }
 
     fn measure(&mut self, register: u16, word: u16) -> Result<(), Refusal<Failure>> {
-        if let Some(refusal) = measure_refusal::<C>(register) {
-            return Err(refusal);
-        }
+        check_measure(C::class(register))?;
         if self.supply {
             self.wire.set_register(register, word);
         }

@@ -6,7 +6,7 @@ ghost use Rattle.bus.proofs.WindowMeaning.{window_meaning};
 ghost use Rattle.window.specs.Made.{window_model, WindowMade};
 
 use bus::bus::Bus;
-use bus::checks::{get_refusal, measure_refusal, put_refusal};
+use bus::checks::{check_get, check_measure, check_put};
 use chart::class::Chart;
 use chart::refusal::{Failure, Refusal};
 use chip::memory;
@@ -94,24 +94,18 @@ impl<'a, C: Chart> Bus for Window<'a, C> {
     ghost meaning = { window_meaning };
 
     fn get(&mut self, raw: u16) -> Result<u16, Refusal<Failure>> {
-        if let Some(refusal) = get_refusal(raw, self.supply) {
-            return Err(refusal);
-        }
+        check_get(raw, self.supply)?;
         Ok(load_lent(self.words, raw))
     }
 
     fn put(&mut self, raw: u16, words: &[u16]) -> Result<(), Refusal<Failure>> {
-        if let Some(refusal) = put_refusal(raw, words.len(), self.supply) {
-            return Err(refusal);
-        }
+        check_put(raw, words.len(), self.supply)?;
         store_burst(self.words, raw, words);
         Ok(())
     }
 
     fn measure(&mut self, register: u16, word: u16) -> Result<(), Refusal<Failure>> {
-        if let Some(refusal) = measure_refusal::<C>(register) {
-            return Err(refusal);
-        }
+        check_measure(C::class(register))?;
         if self.supply {
             memory::set_register(self.words, register, word);
         }
