@@ -1,11 +1,11 @@
 -- The I2C bus as a machine: a controller and a target on one wire, and a line list that says what goes
 -- wrong. Assumes nothing.
-use Rattle.std.specs.Prelude.{◌≡◌, ℕ, ◌+◌, ◌-◌, ◌*◌, ◌/◌, Bool, true, false, cond, List, [], ◌∷◌, length, drop, ◌==◌, slice_index}
-use Rattle.chart.specs.Replies.{Reply, accepted, refused}
+use Rattle.std.specs.Prelude.{◌≡◌, ℕ, ◌+◌, ◌-◌, ◌*◌, ◌/◌, Bool, true, false, cond, List, [], ◌∷◌, length, drop, slice_index}
+use Rattle.chart.specs.Replies.{Reply, accepted, refused, cause_number}
 use Rattle.chart.specs.declared.class.Class.{Class}
 use Rattle.chip.specs.Words.{loaded, WordsSound}
 use Rattle.i2c_target.specs.Traces.{Traced}
-use Rattle.wire.specs.Frames.{Wired, new_wired, made_of, carried, good, put_frame, get_frame}
+use Rattle.wire.specs.Frames.{Wired, new_wired, made_of, carried, good, cause_of_put, cause_of_get, put_frame, get_frame}
 use Rattle.bus.specs.Chips.{Chip, words_measured}
 use Rattle.bus.specs.Checks.{get_check, put_check, measure_check, unless}
 use Rattle.bus.specs.Meaning.{Steps}
@@ -31,16 +31,18 @@ pub record I2cModel : Type 0 where
 abbrev pub i2c_of : Line → Bool → Wired → I2cModel
 i2c_of l on w = record { line = l; supply = on; wire = w }
 
-abbrev pub new_i2c : (ℕ → ℕ) → ℕ → List ℕ → Traced → I2cModel
-new_i2c reset a marks tr = i2c_of (record { marks = marks; failed = 0 }) true (new_wired reset a tr)
+abbrev pub new_line : List ℕ → Line
+new_line marks = record { marks = marks; failed = 0 }
 
--- Why a transfer failed: 1 says that an address was not acknowledged, 2 that something else was not. A put has an
--- address in its first byte, a get in its first and its third.
+abbrev pub new_i2c : (ℕ → ℕ) → ℕ → List ℕ → Traced → I2cModel
+new_i2c reset a marks tr = i2c_of (new_line marks) true (new_wired reset a tr)
+
+-- Why a transfer failed, as a number: 1 says that an address was not acknowledged, 2 that something else was not.
 abbrev pub put_cause : ℕ → ℕ
-put_cause mark = cond (mark == 1) 1 2
+put_cause mark = cause_number (cause_of_put mark)
 
 abbrev pub get_cause : ℕ → ℕ
-get_cause mark = cond (mark == 2) 2 1
+get_cause mark = cause_number (cause_of_get mark)
 
 -- A get is one transfer, in which the target must acknowledge three bytes.
 abbrev pub get_sent : I2cModel → ℕ → Reply × I2cModel

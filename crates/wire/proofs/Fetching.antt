@@ -1,5 +1,6 @@
 -- A get's frame leads the target to the word that is pointed at. Assumes nothing.
-use Rattle.std.proofs.Common.{◌≡◌, ℕ, ◌-◌, ◌/◌, ◌%◌, true, false, eqb, [], ◌∷◌, sym, refl, ap, ◌∙◌, ap₂, arith}
+use Rattle.std.proofs.Common.{◌≡◌, ℕ, ◌+◌, ◌-◌, ◌*◌, ◌/◌, ◌%◌, true, false, eqb, [], ◌∷◌, sym, refl, ap, ◌∙◌, ap₂, arith}
+use Rattle.std.proofs.lemmas.Nat.{div-add-mod'}
 use Rattle.std.proofs.lemmas.Bool.{eq-eqb, ne_eqb}
 use Rattle.std.proofs.lemmas.Bool.Decides.{nat_tests}
 use Rattle.chip.specs.Words.{loaded}
@@ -60,13 +61,13 @@ module _ (w : Wired) (raw mark : ℕ) (two : good mark 2 ≡ true) (one : good (
   asked_words : asked.words ≡ w.words
   asked_words = giving_words own before (mark - 2) one ∙ pointed_words w raw mark two
 
-  pub gives_high : given asked.target asked.words ≡ word / 256
+  gives_high : given asked.target asked.words ≡ word / 256
   gives_high = ap₂ given asked_target asked_words
 
-  pub gives_low : (h : ℕ) → given (passed (Byte h true) asked).target (passed (Byte h true) asked).words ≡ word % 256
+  gives_low : (h : ℕ) → given (passed (Byte h true) asked).target (passed (Byte h true) asked).words ≡ word % 256
   gives_low h = ap₂ (λ t ws. given (moved (Byte h true) t) (written (Byte h true) t ws)) asked_target asked_words
 
-  pub fetched : passed (Byte (word % 256) false) (passed (Byte (word / 256) true) asked) ≡ carried (fetching own raw word mark) w
+  fetched : passed (Byte (word % 256) false) (passed (Byte (word / 256) true) asked) ≡ carried (fetching own raw word mark) w
   fetched = sym (whole_frame ∙ second)
     where
       second : carried (reading own word (mark - 2)) before ≡ passed (Byte (word % 256) false) (passed (Byte (word / 256) true) asked)
@@ -74,6 +75,17 @@ module _ (w : Wired) (raw mark : ℕ) (two : good mark 2 ≡ true) (one : good (
 
       whole_frame : carried (fetching own raw word mark) w ≡ carried (reading own word (mark - 2)) before
       whole_frame = rw two (carried-append (sent (write_byte own ∷ raw ∷ []) mark) (reading own word (mark - 2)) (passed Start w))
+
+  -- two bytes that are taken then are the word's, and complete the frame
+  pub taken : {high low : ℕ} {u v v' : Wired} → u ≡ asked → high ≡ given u.target u.words → v ≡ passed (Byte high true) u
+      → low ≡ given v.target v.words → v' ≡ passed (Byte low false) v
+      → (high * 256 + low ≡ word) × (v' ≡ carried (fetching own raw word mark) w)
+  taken {high = high} ready h took_h l took_l =
+      let gives : Wired → ℕ = λ v. given v.target v.words in
+      let h' = h ∙ ap gives ready ∙ gives_high in
+      let took = took_h ∙ ap (passed (Byte high true)) ready in
+      let l' = l ∙ ap gives took ∙ gives_low high in
+      (rw (h', l') (div-add-mod' word 256), rw (took_l, took, l', h') fetched)
 
   pub good_get : good mark 3 ≡ true
   good_get = grind (arith, nat_tests)

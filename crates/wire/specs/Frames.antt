@@ -1,12 +1,13 @@
 -- The frames of the I2C-bus, event by event, and how they pass. Assumes nothing.
-use Rattle.std.specs.Prelude.{◌≡◌, ℕ, ◌+◌, ◌-◌, ◌*◌, ◌/◌, ◌%◌, ◌<◌, ◌≤◌, Bool, true, false, cond, ◌||◌, List, [], ◌∷◌, ◌++◌, length, take, ◌==◌, nat_lt, slice_set}
+use Rattle.std.specs.Prelude.{◌≡◌, ℕ, ◌+◌, ◌-◌, ◌*◌, ◌/◌, ◌%◌, ◌<◌, ◌≤◌, Bool, true, false, cond, ◌||◌, List, [], ◌∷◌, ◌++◌, length, take, Ok, Err, Result, ◌==◌, nat_lt, slice_set}
+use Rattle.chart.specs.declared.refusal.Cause.{Cause}
+use Rattle.chart.specs.declared.refusal.Cause.TheVariants.{Address, Data}
 use Rattle.chip.specs.Words.{loaded, rising, fresh}
 use Rattle.i2c_target.specs.Targets.{write_byte, read_byte, new_target, moved, stores, written}
-use Rattle.i2c_target.specs.Traces.{Traced, traced, noted}
+use Rattle.i2c_target.specs.Traces.{Traced, noted}
 use Rattle.i2c_target.specs.declared.event.Event.{Event}
 use Rattle.i2c_target.specs.declared.event.Event.TheVariants.{Start, Byte, Stop}
 use Rattle.i2c_target.specs.declared.target.Target.{Target}
-use Rattle.wire.specs.declared.wire.Wire.{Wire}
 
 -- the bytes of words, each high byte first
 abbrev pub word_bytes : List ℕ → List ℕ
@@ -17,11 +18,26 @@ word_bytes (w ∷ ws) = w / 256 ∷ w % 256 ∷ word_bytes ws
 abbrev pub good : ℕ → ℕ → Bool
 good mark n = mark == 0 || nat_lt n mark
 
+-- What a transfer under a mark answers in which the target must acknowledge n bytes: v, or why it failed.
+abbrev pub answer : {T : Type 0} → ℕ → ℕ → T → Cause → Result T Cause
+answer mark n v cause = cond (good mark n) (Ok v) (Err cause)
+
+-- A put has an address in its first byte, a get in its first and its third.
+abbrev pub cause_of_put : ℕ → Cause
+cause_of_put mark = cond (mark == 1) Address Data
+
+abbrev pub cause_of_get : ℕ → Cause
+cause_of_get mark = cond (mark == 2) Data Address
+
 -- Bytes to the target: it acknowledges each but the one that the mark names, by counting from 1,
 -- and no byte is sent after that one.
 abbrev pub sent : List ℕ → ℕ → List Event
 sent [] mark = []
 sent (b ∷ bs) mark = cond (mark == 1) (Byte b false ∷ []) (Byte b true ∷ sent bs (mark - 1))
+
+-- the bytes that lead the target to a raw address
+abbrev pub head_bytes : ℕ → ℕ → List ℕ
+head_bytes a raw = write_byte a ∷ raw ∷ []
 
 -- the bytes of a put: address, raw address, words
 abbrev pub put_bytes : ℕ → ℕ → List ℕ → List ℕ
@@ -53,9 +69,6 @@ pub record Wired : Type 0 where
 
 abbrev pub made_of : Target → List ℕ → Traced → Wired
 made_of t ws tr = record { target = t; words = ws; trace = tr }
-
-abbrev pub wired : Wire → Wired
-wired w = made_of w.target w.words (traced w.trace)
 
 -- the address of the target, and the word that it has at a raw address
 abbrev pub own : Wired → ℕ
