@@ -45,6 +45,6 @@ impl Patch {
         ensures value { result ≡ complete self }
         ensures law { Completes self result }
     {
-        self.mask == 0xFFFF
+        self.mask == u16::MAX
     }
 }

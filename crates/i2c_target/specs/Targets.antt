@@ -47,13 +47,8 @@ moved Stop t = in_state Idle t
 moved (Byte v a) t = byte_moved t.state v a t
 
 abbrev byte_stores : State → ℕ → Bool → Target → List (ℕ × ℕ)
-byte_stores Idle v a t = []
-byte_stores Listening v a t = []
-byte_stores Pointing v a t = []
-byte_stores Ready v a t = []
 byte_stores (Half h) v a t = cond a ((t.pointer, h * 256 + v) ∷ []) []
-byte_stores Giving v a t = []
-byte_stores GivingLow v a t = []
+byte_stores _ v a t = []
 
 -- the stores that an event makes the target do, each a raw address with its word: one where the low
 -- byte of a word is acknowledged, else none
@@ -66,13 +61,9 @@ abbrev pub written : Event → Target → List ℕ → List ℕ
 written e t ws = all_stored ws (stores e t)
 
 abbrev byte_given : State → ℕ → ℕ
-byte_given Idle w = 255
-byte_given Listening w = 255
-byte_given Pointing w = 255
-byte_given Ready w = 255
-byte_given (Half h) w = 255
 byte_given Giving w = w / 256
 byte_given GivingLow w = w % 256
+byte_given _ w = 255
 
 -- the byte that the target puts on the wire: of the word that is pointed at, or a line left high
 abbrev pub given : Target → List ℕ → ℕ

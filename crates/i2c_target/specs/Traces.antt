@@ -1,16 +1,12 @@
 -- What a trace holds. Assumes nothing.
-use Rattle.std.specs.Prelude.{ℕ, Bool, true, cond, List, [], ◌∷◌, ◌++◌, length, vec_items, vec_capacity, nat_lt}
+use Rattle.std.specs.Prelude.{ℕ, Bool, true, cond, List, [], ◌∷◌, ◌++◌, length, nat_lt}
 use Rattle.i2c_target.specs.declared.event.Event.{Event}
-use Rattle.i2c_target.specs.declared.trace.Trace.{Trace}
 
 -- the events in order, for how many there is room, and whether one found no room
 pub record Traced : Type 0 where
   pub events : List Event
   pub room : ℕ
   pub overrun : Bool
-
-abbrev pub traced : Trace → Traced
-traced t = record { events = vec_items t.events; room = vec_capacity t.events; overrun = t.overrun }
 
 abbrev pub noted : Event → Traced → Traced
 noted e t =
