@@ -18,7 +18,7 @@ word_bytes (w ∷ ws) = w / 256 ∷ w % 256 ∷ word_bytes ws
 abbrev pub good : ℕ → ℕ → Bool
 good mark n = mark == 0 || nat_lt n mark
 
--- What a transfer under a mark answers in which the target must acknowledge n bytes: v, or why it failed.
+-- what a transfer under a mark answers in which the target must acknowledge n bytes: v, or why it failed
 abbrev pub answer : {T : Type 0} → ℕ → ℕ → T → Cause → Result T Cause
 answer mark n v cause = if good mark n then Ok v else Err cause
 
@@ -35,13 +35,13 @@ abbrev pub sent : List ℕ → ℕ → List Event
 sent [] mark = []
 sent (b ∷ bs) mark = if mark == 1 then Byte b false ∷ [] else (Byte b true ∷ sent bs (mark - 1))
 
--- the bytes that lead the target to a raw address
+-- the bytes that lead the target to a raw address: its address to write to, and the raw address
 abbrev pub head_bytes : ℕ → ℕ → List ℕ
 head_bytes a raw = write_byte a ∷ raw ∷ []
 
 -- the bytes of a put: address, raw address, words
 abbrev pub put_bytes : ℕ → ℕ → List ℕ → List ℕ
-put_bytes a raw ws = write_byte a ∷ raw ∷ word_bytes ws
+put_bytes a raw ws = head_bytes a raw ++ word_bytes ws
 
 -- a put: start, address, raw address, the words, stop
 abbrev pub put_frame : ℕ → ℕ → List ℕ → ℕ → List Event
@@ -55,7 +55,7 @@ reading a w mark =
 
 -- a get up to its last byte: start, address, raw address, and if both are acknowledged the second part
 abbrev pub fetching : ℕ → ℕ → ℕ → ℕ → List Event
-fetching a raw w mark = Start ∷ (sent (write_byte a ∷ raw ∷ []) mark ++ (if good mark 2 then reading a w (mark - 2) else []))
+fetching a raw w mark = Start ∷ (sent (head_bytes a raw) mark ++ (if good mark 2 then reading a w (mark - 2) else []))
 
 -- a get that delivers the word w
 abbrev pub get_frame : ℕ → ℕ → ℕ → ℕ → List Event
