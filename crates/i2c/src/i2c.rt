@@ -1,6 +1,6 @@
 // A chip behind I2C: the controller, the wire and the target of one address, with a line list that says
 // which transfers go wrong.
-ghost use Rattle.std.specs.Prelude.{◌≡◌, ◌+◌, ◌<◌, ◌≤◌, length};
+ghost use Rattle.std.specs.Prelude.{◌≡◌, ◌<◌, ◌≤◌, length};
 ghost use Rattle.std.specs.Option.{SomeIff};
 ghost use Rattle.chart.specs.Replies.{reply, word_value, no_value};
 ghost use Rattle.i2c_target.specs.Traces.{traced};
@@ -98,7 +98,7 @@ impl<'a, C: Chart> Bus for I2c<'a, C> {
 
     fn get(&mut self, raw: u16) -> Result<u16, Refusal<Failure>> {
         check_get(raw, self.supply)?;
-        // the check leaves raw addresses up to 63
+        // here and in `put` the cast loses nothing: a raw address that passed the check is below 64
         self.send_get(raw as u8)
     }
 

@@ -1,6 +1,6 @@
 // A chip whose words lie in memory that is lent to the bus. No transfer on it fails.
-ghost use Rattle.std.specs.Prelude.{◌≡◌, ◌+◌, ◌≤◌, length, ◌==◌};
-ghost use Rattle.chip.specs.Words.{loaded, rising, all_stored};
+ghost use Rattle.std.specs.Prelude.{◌≡◌, ◌+◌, ◌≤◌, length};
+ghost use Rattle.chip.specs.Words.{rising, all_stored};
 ghost use Rattle.bus.specs.Windows.{WindowModel, window_steps, window_chip, window_trace, WindowSound, WindowNew};
 ghost use Rattle.bus.proofs.WindowMeaning.{window_meaning};
 ghost use Rattle.window.specs.Made.{window_model, WindowMade};

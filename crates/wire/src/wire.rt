@@ -1,5 +1,5 @@
 // The controller's end of the wire, and what passes to the chip at the other end.
-ghost use Rattle.std.specs.Prelude.{◌≡◌, ◌+◌, ◌*◌, true, false, length};
+ghost use Rattle.std.specs.Prelude.{◌≡◌, ◌+◌, ◌*◌, length};
 ghost use Rattle.i2c_target.specs.declared.event.Event.TheVariants.{Byte};
 ghost use Rattle.i2c_target.specs.Targets.{given};
 ghost use Rattle.wire.specs.Frames.{own, pointed_at, passed, carried, sent, answer, cause_of_put, cause_of_get, word_bytes, put_bytes, head_bytes, put_frame, fetching, get_frame, Recovered, Untouched, new_wired, with_register};
