@@ -1,109 +1,116 @@
--- The steps of the loops that cut. Assumes nothing.
-use Rattle.std.proofs.Common.{◌≡◌, ℕ, ◌+◌, ◌-◌, ◌<◌, ◌≤◌, true, false, List, [], ◌∷◌, ◌++◌, length, get_or, take, drop, sym, ap, ◌∙◌, append_assoc, append-nil, add-zero, arith}
-use native.Mathlib.Nat.{sub-zero}
-use Rattle.std.proofs.lemmas.List.{at_drop_more, at_drop_all, take_more, take_rest, take_all, drop_all, nil_from_length, length-drop, length-take-le, get_or-drop}
-use Rattle.std.proofs.lemmas.Bool.{cond-true, cond-false, eq-eqb, ne_eqb}
-use Rattle.sheet.specs.Cut.{before, after, blank, solid, words_after, words_of}
+-- How a text is cut at the first byte of a kind. Assumes nothing.
+use Rattle.std.proofs.Common.{◌≡◌, ℕ, ◌+◌, ◌-◌, ◌<◌, ◌≤◌, Bool, true, false, cond, eqb, not, List, [], ◌∷◌, Some, None, length, get_or, take, drop, refl, ap, sym, ◌∙◌, add-zero, arith}
+use Rattle.std.specs.List.{position, position_or_len}
+use Rattle.std.specs.Option.{unwrap_or}
+use Rattle.std.proofs.lemmas.Bool.{cond-true, cond-false, cond_both}
+use Rattle.std.proofs.lemmas.Bool.Decides.{nat_tests}
+use Rattle.std.proofs.lemmas.Option.{cond_some}
+use borrow.Author.Tests.{ltb-true}
+use Rattle.std.proofs.lemmas.Grind.{common_steps}
+use Rattle.std.proofs.lemmas.List.{drop_all, take_rest, length-drop, get_or-drop}
+use Rattle.std.proofs.lemmas.List.Sums.{passes_at_first, prefix_len-le-length}
+use Rattle.sheet.specs.Cut.{before, after, blank, solid, words_after, words_of, lines_of, lines_after}
 
--- b was not found before i
-pub record Unfound (b : ℕ) (s : List ℕ) (i : ℕ) : Type 0 where
-  pub front : before b s ≡ take i s ++ before b (drop i s)
-  pub back : after b s ≡ after b (drop i s)
+-- the first blank, and the first byte that is none
+abbrev pub gap : List ℕ → ℕ
+gap s = position_or_len (λ c. not (blank c)) s
 
-module _ (b : ℕ) (s : List ℕ) (i : ℕ) (old : Unfound b s i) where
-  pub found : i < length s → get_or s i 0 ≡ b → (take (i - 0) s ≡ before b s) × (take (length s - (i + 1)) (drop (i + 1) s) ≡ after b s)
-  found lt e =
-      let hit = eq-eqb (get_or s i 0) b e in
-      let f : before b (drop i s) ≡ [] = at_drop_more (before b) s i 0 lt ∙ cond-true _ _ _ hit in
-      let g : after b (drop i s) ≡ drop (i + 1) s = at_drop_more (after b) s i 0 lt ∙ cond-true _ _ _ hit in
-      (ap (λ k. take k s) (sub-zero i) ∙ sym (old.front ∙ ap (λ l. take i s ++ l) f ∙ append-nil (take i s)), take_rest s (i + 1) ∙ sym (old.back ∙ g))
+abbrev pub reach : List ℕ → ℕ
+reach s = position_or_len blank s
 
-  pub missed : i < length s → (get_or s i 0 ≡ b → ⊥) → Unfound b s (i + 1)
-  missed lt n =
-      let miss = ne_eqb (get_or s i 0) b n in
-      let f : before b (drop i s) ≡ get_or s i 0 ∷ before b (drop (i + 1) s) = at_drop_more (before b) s i 0 lt ∙ cond-false _ _ _ miss in
-      let g : after b (drop i s) ≡ after b (drop (i + 1) s) = at_drop_more (after b) s i 0 lt ∙ cond-false _ _ _ miss in
-      record {
-        front = old.front ∙ ap (λ l. take i s ++ l) f ∙ sym (append_assoc (take i s) (get_or s i 0 ∷ []) (before b (drop (i + 1) s))) ∙ ap (λ l. l ++ before b (drop (i + 1) s)) (sym (take_more s i 0 lt));
-        back = old.back ∙ g;
-      }
+module _ (c : ℕ) (cs : List ℕ) where
+  past : (n : ℕ) → drop (1 + n) (c ∷ cs) ≡ drop n cs
+  past n = grind (arith, common_steps)
 
-  pub nowhere : length s ≤ i → (s ≡ before b s) × (take (length s - length s) (drop (length s) s) ≡ after b s)
-  nowhere le =
-      let f : before b (drop i s) ≡ [] = at_drop_all (before b) s i le in
-      let g : after b (drop i s) ≡ [] = at_drop_all (after b) s i le in
-      (sym (old.front ∙ ap (λ l. take i s ++ l) f ∙ append-nil (take i s) ∙ take_all i s le), take_rest s (length s) ∙ drop_all (length s) s (omega arith) ∙ sym (old.back ∙ g))
+  upto : (n : ℕ) → take (1 + n) (c ∷ cs) ≡ c ∷ take n cs
+  upto n = grind (arith, common_steps)
 
--- only blanks stand before i
-pub record Gap (s : List ℕ) (i : ℕ) : Type 0 where
-  pub same : words_of s ≡ words_of (drop i s)
+  blanks_step : (t : Bool) → blank c ≡ t → words_of cs ≡ words_of (drop (gap cs) cs) → words_of (c ∷ cs) ≡ words_of (drop (gap (c ∷ cs)) (c ∷ cs))
+  blanks_step true e h =
+      let g : gap (c ∷ cs) ≡ 1 + gap cs = cond-true _ _ _ (ap (λ b. not (not b)) e) in
+      cond-true _ _ _ e ∙ h ∙ ap words_of (sym (past (gap cs))) ∙ ap (λ k. words_of (drop k (c ∷ cs))) (sym g)
+  blanks_step false e h =
+      let g : gap (c ∷ cs) ≡ 0 = cond-false _ _ _ (ap (λ b. not (not b)) e) in
+      ap (λ k. words_of (drop k (c ∷ cs))) (sym g)
 
-module _ (s : List ℕ) (i : ℕ) (old : Gap s i) where
-  pub gap_more : i < length s → blank (get_or s i 0) ≡ true → Gap s (i + 1)
-  gap_more lt e =
-      let f : words_of (drop i s) ≡ words_of (drop (i + 1) s) = at_drop_more words_of s i 0 lt ∙ cond-true _ _ _ e in
-      record { same = old.same ∙ f }
+  ends_step : (t : Bool) → blank c ≡ t → words_after false cs ≡ words_of (drop (reach cs) cs) → words_after false (c ∷ cs) ≡ words_of (drop (reach (c ∷ cs)) (c ∷ cs))
+  ends_step true e h =
+      let g : reach (c ∷ cs) ≡ 0 = cond-false _ _ _ (ap not e) in
+      cond-true _ _ _ e ∙ sym (cond-true _ _ _ e) ∙ ap (λ k. words_of (drop k (c ∷ cs))) (sym g)
+  ends_step false e h =
+      let g : reach (c ∷ cs) ≡ 1 + reach cs = cond-true _ _ _ (ap not e) in
+      cond-false _ _ _ e ∙ h ∙ ap words_of (sym (past (reach cs))) ∙ ap (λ k. words_of (drop k (c ∷ cs))) (sym g)
 
-  pub gap_all : length s ≤ i → words_of s ≡ words_of (drop (length s) s)
-  gap_all le =
-      let f : words_of (drop i s) ≡ [] = at_drop_all words_of s i le in
-      let g : words_of (drop (length s) s) ≡ [] = at_drop_all words_of s (length s) (omega arith) in
-      old.same ∙ f ∙ sym g
+-- the blanks before a word say nothing
+blanks : (s : List ℕ) → words_of s ≡ words_of (drop (gap s) s)
+blanks [] = refl
+blanks (c ∷ cs) = blanks_step c cs (blank c) refl (blanks cs)
 
--- no blank stands before i
-pub record Inside (s : List ℕ) (i : ℕ) : Type 0 where
-  pub front : solid s ≡ take i s ++ solid (drop i s)
-  pub back : words_after false s ≡ words_after false (drop i s)
+-- a word ends at a blank
+ends : (s : List ℕ) → words_after false s ≡ words_of (drop (reach s) s)
+ends [] = refl
+ends (c ∷ cs) = ends_step c cs (blank c) refl (ends cs)
 
-module _ (s : List ℕ) (i : ℕ) (old : Inside s i) where
-  pub inside_more : i < length s → blank (get_or s i 0) ≡ false → Inside s (i + 1)
-  inside_more lt e =
-      let f : solid (drop i s) ≡ get_or s i 0 ∷ solid (drop (i + 1) s) = at_drop_more solid s i 0 lt ∙ cond-false _ _ _ e in
-      let g : words_after false (drop i s) ≡ words_after false (drop (i + 1) s) = at_drop_more (words_after false) s i 0 lt ∙ cond-false _ _ _ e in
-      record {
-        front = old.front ∙ ap (λ l. take i s ++ l) f ∙ sym (append_assoc (take i s) (get_or s i 0 ∷ []) (solid (drop (i + 1) s))) ∙ ap (λ l. l ++ solid (drop (i + 1) s)) (sym (take_more s i 0 lt));
-        back = old.back ∙ g;
-      }
+begins : (s : List ℕ) → 0 < length s → blank (get_or s 0 0) ≡ false → words_of s ≡ take (reach s) s ∷ words_of (drop (reach s) s)
+begins [] some e = absurd (omega arith)
+begins (c ∷ cs) some e =
+    let g : reach (c ∷ cs) ≡ 1 + reach cs = cond-true _ _ _ (ap not e) in
+    cond-false _ _ _ e ∙ ap (λ l. (c ∷ solid cs) ∷ l) (ends cs ∙ ap words_of (sym (past c cs (reach cs)))) ∙ ap (λ l. l ∷ words_of (drop (1 + reach cs) (c ∷ cs))) (sym (upto c cs (reach cs))) ∙ ap (λ k. take k (c ∷ cs) ∷ words_of (drop k (c ∷ cs))) (sym g)
 
-  pub inside_ends : i < length s → blank (get_or s i 0) ≡ true → (take i s ≡ solid s) × (words_of (drop i s) ≡ words_after false s)
-  inside_ends lt e =
-      let f : solid (drop i s) ≡ [] = at_drop_more solid s i 0 lt ∙ cond-true _ _ _ e in
-      let g : words_after false (drop i s) ≡ words_of (drop (i + 1) s) = at_drop_more (words_after false) s i 0 lt ∙ cond-true _ _ _ e in
-      let h : words_of (drop i s) ≡ words_of (drop (i + 1) s) = at_drop_more words_of s i 0 lt ∙ cond-true _ _ _ e in
-      (sym (old.front ∙ ap (λ l. take i s ++ l) f ∙ append-nil (take i s)), h ∙ sym (old.back ∙ g))
+not_true : (b : Bool) → not b ≡ true → b ≡ false
+not_true true e = cc
+not_true false e = refl
 
-  pub inside_all : length s ≤ i → (take (length s) s ≡ solid s) × (words_of (drop (length s) s) ≡ words_after false s)
-  inside_all le =
-      let f : solid (drop i s) ≡ [] = at_drop_all solid s i le in
-      let g : words_after false (drop i s) ≡ [] = at_drop_all (words_after false) s i le in
-      let h : words_of (drop (length s) s) ≡ [] = at_drop_all words_of s (length s) (omega arith) in
-      (take_all (length s) s (omega arith) ∙ sym (old.front ∙ ap (λ l. take i s ++ l) f ∙ append-nil (take i s) ∙ take_all i s le), h ∙ sym (old.back ∙ g))
+first_word : (s rest : List ℕ) → gap s < length s → rest ≡ drop (gap s) s → words_of s ≡ take (reach rest) rest ∷ words_of (drop (reach rest) rest)
+first_word s rest some is =
+    let long : length rest ≡ length s - gap s = ap length is ∙ length-drop (gap s) s in
+    let here : get_or rest 0 0 ≡ get_or s (gap s) 0 = ap (λ l. get_or l 0 0) is ∙ get_or-drop (gap s) s 0 0 ∙ ap (λ k. get_or s k 0) (add-zero (gap s)) in
+    let solid : blank (get_or rest 0 0) ≡ false = ap blank here ∙ not_true _ (passes_at_first (λ c. not (blank c)) s 0 some) in
+    blanks s ∙ ap words_of (sym is) ∙ begins rest (omega arith) solid
 
--- a word begins where no blank stands
-pub word_begins : (s : List ℕ) → 0 < length s → blank (get_or s 0 0) ≡ false → words_of s ≡ solid s ∷ words_after false s
-word_begins [] some e = absurd (omega arith)
-word_begins (c ∷ cs) some e = cond-false _ _ _ e ∙ (λ i. sym f i ∷ sym g i)
-  where
-    f : solid (c ∷ cs) ≡ c ∷ solid cs
-    f = cond-false _ _ _ e
+-- where `position` finds something, and its answer with the length for none
+found : (p : ℕ → Bool) (s : List ℕ) (i : ℕ) → position p s ≡ Some i → (position_or_len p s ≡ i) × (position_or_len p s < length s)
+found p s i at = let h = cond_some _ _ _ at in (h.1, ltb-true _ _ h.0)
 
-    g : words_after false (c ∷ cs) ≡ words_after false cs
-    g = cond-false _ _ _ e
+found_or_len : (p : ℕ → Bool) (s : List ℕ) → unwrap_or (position p s) (length s) ≡ position_or_len p s
+found_or_len p s = grind (arith, common_steps, nat_tests, prefix_len-le-length {X = ℕ} (λ c. not (p c)) s)
 
-pub some_solid : (s : List ℕ) → 0 < length s → blank (get_or s 0 0) ≡ false → 0 < length (solid s)
-some_solid [] some e = absurd (omega arith)
-some_solid (c ∷ cs) some e = let f : length (solid (c ∷ cs)) ≡ length (c ∷ solid cs) = ap length (cond-false _ _ _ e) in omega arith
+nowhere : (p : ℕ → Bool) (s : List ℕ) → position p s ≡ None → length s ≤ position_or_len p s
+nowhere p s at = grind (arith, common_steps, nat_tests)
 
-module _ (line rest : List ℕ) (g : ℕ) (is : rest ≡ drop g line) (same : words_of line ≡ words_of (drop g line)) where
-  pub no_word : length rest ≡ 0 → words_of line ≡ []
-  no_word e = same ∙ ap words_of (sym is ∙ nil_from_length rest e)
+pub no_word : (s : List ℕ) → position (λ c. not (blank c)) s ≡ None → words_of s ≡ []
+no_word s at = blanks s ∙ ap words_of (drop_all (gap s) s (nowhere (λ c. not (blank c)) s at))
 
-  pub first_word : (g < length line → blank (get_or line g 0) ≡ false) → (length rest ≡ 0 → ⊥) → (n : ℕ) → take n rest ≡ solid rest → words_of (drop n rest) ≡ words_after false rest → n ≤ length rest → (w left : List ℕ) → w ≡ take n rest → left ≡ drop n rest → (words_of line ≡ w ∷ words_of left) × (length left < length line)
-  first_word stops some n front back le w left iw il =
-      let long : length rest ≡ length line - g = ap length is ∙ length-drop g line in
-      let first : blank (get_or rest 0 0) ≡ false = ap (λ l. blank (get_or l 0 0)) is ∙ ap blank (get_or-drop g line 0 0 ∙ ap (λ k. get_or line k 0) (add-zero g)) ∙ stops (omega arith) in
-      let more = some_solid rest (omega arith) first in
-      let taken : length (take n rest) ≡ n = length-take-le n rest le in
-      let cut : length left ≡ length rest - n = ap length il ∙ length-drop n rest in
-      let begun : words_of rest ≡ solid rest ∷ words_after false rest = word_begins rest (omega arith) first in
-      (same ∙ ap words_of (sym is) ∙ begun ∙ (λ i. sym (iw ∙ front) i ∷ sym (ap words_of il ∙ back) i), omega (arith, ap length front))
+pub next_word : (s rest w left : List ℕ) (i e : ℕ) → position (λ c. not (blank c)) s ≡ Some i → rest ≡ take (length s - i) (drop i s) → e ≡ unwrap_or (position blank rest) (length rest) → w ≡ take e rest → left ≡ drop e rest → words_of s ≡ w ∷ words_of left
+next_word s rest w left i e at is end front back =
+    let h = found (λ c. not (blank c)) s i at in
+    let from : rest ≡ drop (gap s) s = is ∙ take_rest s i ∙ ap (λ k. drop k s) (sym h.0) in
+    let stop : e ≡ reach rest = end ∙ found_or_len blank rest in
+    first_word s rest h.1 from ∙ ap (λ k. take k rest ∷ words_of (drop k rest)) (sym stop) ∙ (λ j. sym front j ∷ words_of (sym back j))
+
+-- no more words than bytes
+pub few_after : (b : Bool) (s : List ℕ) → length (words_after b s) ≤ length s
+few_after b [] = omega arith
+few_after true (c ∷ cs) = cond_both (blank c) (words_after true cs) ((c ∷ solid cs) ∷ words_after false cs) (λ l. length l ≤ length (c ∷ cs)) (λ _. omega (arith, few_after true cs)) (λ _. omega (arith, few_after false cs))
+few_after false (c ∷ cs) = cond_both (blank c) (words_after true cs) (words_after false cs) (λ l. length l ≤ length (c ∷ cs)) (λ _. omega (arith, few_after true cs)) (λ _. omega (arith, few_after false cs))
+
+pub few_lines : (b : Bool) (s : List ℕ) → length (lines_after b s) ≤ length s
+few_lines b [] = omega arith
+few_lines true (c ∷ cs) = omega (arith, few_lines (eqb c 10) cs)
+few_lines false (c ∷ cs) = omega (arith, few_lines (eqb c 10) cs)
+
+after_step : (t : Bool) (c n : ℕ) (cs : List ℕ) → drop (cond (not t) (1 + n) 0 + 1) (c ∷ cs) ≡ cond t cs (drop (n + 1) cs)
+after_step true c n cs = grind (arith, common_steps)
+after_step false c n cs = grind (arith, common_steps)
+
+same_way : (t : Bool) (cs ds : List ℕ) → lines_after false cs ≡ lines_of ds → lines_after t cs ≡ lines_of (cond t cs ds)
+same_way true cs ds h = refl
+same_way false cs ds h = h
+
+rest_of_line : (cs : List ℕ) → lines_after false cs ≡ lines_of (after 10 cs)
+rest_of_line [] = refl
+rest_of_line (c ∷ cs) = same_way (eqb c 10) cs (after 10 cs) (rest_of_line cs) ∙ ap lines_of (sym (after_step (eqb c 10) c (position_or_len (λ d. eqb d 10) cs) cs))
+
+pub first_line : (s : List ℕ) → (length s ≡ 0 → ⊥) → lines_of s ≡ before 10 s ∷ lines_of (after 10 s)
+first_line [] some = absurd (some refl)
+first_line (c ∷ cs) some = ap (λ l. before 10 (c ∷ cs) ∷ l) (rest_of_line (c ∷ cs))

@@ -1,5 +1,4 @@
 mod Cutting
 mod Digiting
-mod Listing
 mod Drafting
-mod Reading
+mod Listing

@@ -1,15 +1,14 @@
 -- How a text is cut into lines and words. Assumes nothing.
 use Rattle.std.specs.Prelude.{ℕ, Bool, true, false, cond, ◌||◌, List, [], ◌∷◌, ◌==◌}
+use Rattle.std.specs.List.{before_first, after_first}
 
 -- what stands before the first b
 abbrev pub before : ℕ → List ℕ → List ℕ
-before b [] = []
-before b (c ∷ cs) = cond (c == b) [] (c ∷ before b cs)
+before b s = before_first (λ c. c == b) s
 
 -- what stands after the first b
 abbrev pub after : ℕ → List ℕ → List ℕ
-after b [] = []
-after b (c ∷ cs) = cond (c == b) cs (after b cs)
+after b s = after_first (λ c. c == b) s
 
 -- the lines that begin in a text, which follows a line end, or else a character of a line
 abbrev pub lines_after : Bool → List ℕ → List (List ℕ)
@@ -27,8 +26,7 @@ blank c = c == 32 || (c == 9 || c == 13)
 
 -- the longest front with no blank
 abbrev pub solid : List ℕ → List ℕ
-solid [] = []
-solid (c ∷ cs) = cond (blank c) [] (c ∷ solid cs)
+solid s = before_first blank s
 
 -- the words that begin in a list, which follows a blank, or else a character of a word
 abbrev pub words_after : Bool → List ℕ → List (List ℕ)

@@ -1,5 +1,5 @@
 -- What a line says. Assumes nothing.
-use Rattle.std.specs.Prelude.{◌≡◌, ℕ, cond, List, [], ◌∷◌, Ok, Err, vec_items, codes, Result, nat_lt}
+use Rattle.std.specs.Prelude.{◌≡◌, ℕ, cond, List, [], ◌∷◌, length, Ok, Err, vec_items, codes, Result, ◌==◌, nat_lt, slice_index}
 use Rattle.std.specs.Option.{ok_or}
 use Rattle.std.specs.Str.{bytes_eq}
 use Rattle.sheet.specs.declared.Make.{Make}
@@ -65,40 +65,36 @@ short8 (Err m) = Err m
 abbrev pub mark_of : List ℕ → Result ℕ Mistake
 mark_of w = short8 (number_of w)
 
--- the words of a statement that takes none, one number, two numbers
-abbrev pub nothing : List (List ℕ) → Result (Unit {0}) Mistake
-nothing [] = Ok tt
-nothing (w ∷ ws) = Err WordCount
-
-abbrev pub one_number : List (List ℕ) → Result ℕ Mistake
-one_number [] = Err WordCount
-one_number (w ∷ []) = number_of w
-one_number (w ∷ v ∷ vs) = Err WordCount
-
-abbrev pub paired : Result ℕ Mistake → Result ℕ Mistake → Result (ℕ × ℕ) Mistake
-paired (Err m) r = Err m
-paired (Ok a) (Err m) = Err m
-paired (Ok a) (Ok b) = Ok (a, b)
-
-abbrev pub two_numbers : List (List ℕ) → Result (ℕ × ℕ) Mistake
-two_numbers [] = Err WordCount
-two_numbers (w ∷ []) = Err WordCount
-two_numbers (w ∷ v ∷ []) = paired (number_of w) (number_of v)
-two_numbers (w ∷ v ∷ u ∷ us) = Err WordCount
-
 -- the first mistake of a list, else its values
-abbrev pub chained : Result ℕ Mistake → Result (List ℕ) Mistake → Result (List ℕ) Mistake
+abbrev pub chained : {X : Type 0} → Result X Mistake → Result (List X) Mistake → Result (List X) Mistake
 chained (Err m) r = Err m
 chained (Ok x) (Err m) = Err m
 chained (Ok x) (Ok xs) = Ok (x ∷ xs)
 
+-- what a list of words says, where f is what one says
+abbrev pub all_of : {X : Type 0} → (List ℕ → Result X Mistake) → List (List ℕ) → Result (List X) Mistake
+all_of f [] = Ok []
+all_of f (w ∷ ws) = chained (f w) (all_of f ws)
+
 abbrev pub numbers_of : List (List ℕ) → Result (List ℕ) Mistake
-numbers_of [] = Ok []
-numbers_of (w ∷ ws) = chained (number_of w) (numbers_of ws)
+numbers_of = all_of number_of
 
 abbrev pub marks_of : List (List ℕ) → Result (List ℕ) Mistake
-marks_of [] = Ok []
-marks_of (w ∷ ws) = chained (mark_of w) (marks_of ws)
+marks_of = all_of mark_of
+
+-- n numbers, which are all the words
+abbrev pub exactly : ℕ → List (List ℕ) → Result (List ℕ) Mistake
+exactly n ws = cond (length ws == n) (numbers_of ws) (Err WordCount)
+
+-- the words of a statement that takes none, one number, two numbers
+abbrev pub nothing : List (List ℕ) → Result (Unit {0}) Mistake
+nothing ws = map_ok (λ _. tt) (exactly 0 ws)
+
+abbrev pub one_number : List (List ℕ) → Result ℕ Mistake
+one_number ws = map_ok (λ ns. slice_index ns 0) (exactly 1 ws)
+
+abbrev pub two_numbers : List (List ℕ) → Result (ℕ × ℕ) Mistake
+two_numbers ws = map_ok (λ ns. (slice_index ns 0, slice_index ns 1)) (exactly 2 ws)
 
 -- the words after each statement's name
 abbrev pub bus_of : List (List ℕ) → Result Make Mistake

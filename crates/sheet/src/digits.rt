@@ -1,43 +1,21 @@
 // Numbers as a sheet writes them.
 ghost use Rattle.std.specs.Prelude.{◌≡◌, ◌≤◌};
-ghost use Rattle.sheet.specs.Numeral.{digit, in_base, numeral};
+ghost use Rattle.sheet.specs.Numeral.{in_base, numeral};
 
-// A number has 16 bits.
-const LIMIT: u32 = 65536;
-
-// What a digit is worth. What is no digit is worth 16, which is below no base.
-fn worth(c: u8) -> u32
-    ensures { result ≡ digit c }
-{
-    match c {
-        b'0'..=b'9' => u32::from(c - b'0'),
-        b'a'..=b'f' => u32::from(c - b'a') + 10,
-        b'A'..=b'F' => u32::from(c - b'A') + 10,
-        _ => 16,
-    }
-}
-
-fn in_base(digits: &[u8], base: u32) -> Option<u16>
-    requires some { 1 ≤ base }
+fn in_base(digits: &[u8], base: u16) -> Option<u16>
+    requires some { 2 ≤ base }
     requires few { base ≤ 16 }
     ensures { result ≡ in_base base digits.now }
 {
     if digits.is_empty() {
         return None;
     }
-    let mut n = 0;
+    let mut n = 0u16;
     for c in digits {
-        let d = worth(*c);
-        if d >= base {
-            return None;
-        }
-        n = n * base + d;
-        // Further digits make it no smaller, and stopping here keeps it from overflowing.
-        if n >= LIMIT {
-            return None;
-        }
+        let digit = char::from(*c).to_digit(u32::from(base))? as u16;
+        n = n.checked_mul(base)?.checked_add(digit)?;
     }
-    Some(n as u16)
+    Some(n)
 }
 
 // The number that a word writes: decimal, or hexadecimal after `0x`.

@@ -1,30 +1,21 @@
 // What a sheet has said so far.
-ghost use Rattle.std.specs.Prelude.{◌≡◌};
+ghost use Rattle.std.specs.Prelude.{◌≡◌, cond, vec_items};
 ghost use Rattle.sheet.specs.Said.{Gives, map_ok, asked, said};
-ghost use Rattle.sheet.specs.Sheets.{sofar, blank_sheet, none, is_window, on_window, with_bus, with_chart, with_marks, with_call, taken, after_line, finished, Reads};
+ghost use Rattle.sheet.specs.Sheets.{sofar, blank_sheet, none, with_bus, with_chart, with_marks, with_call, taken, after_line, finished, Reads};
 
-use crate::cut::{next_word, uncommented};
+use crate::cut::{Words, uncommented};
 use crate::line::{Statement, read_statement};
 use crate::{Call, ChartName, Fault, LineError, Make, Mistake, Sheet};
 use std::alloc::Global;
 
 #[derive(Drop)]
 pub struct Draft {
+    pub heap: Global,
     pub make: Option<Make>,
     pub chart: Option<ChartName>,
-    // Whether a `marks` line came, with marks or without.
-    pub marked: bool,
-    pub marks: Vec<u8>,
+    // Of all `marks` lines, where one came.
+    pub marks: Option<Vec<u8>>,
     pub calls: Vec<Call>,
-}
-
-fn is_window(make: Make) -> bool
-    ensures { result ≡ is_window make }
-{
-    match make {
-        Make::I2c(_) => false,
-        Make::Window => true,
-    }
 }
 
 impl Draft {
@@ -32,40 +23,33 @@ impl Draft {
         ensures { sofar result ≡ blank_sheet }
     {
         Draft {
+            heap,
             make: None,
             chart: None,
-            marked: false,
-            marks: Vec::new(heap),
+            marks: None,
             calls: Vec::new(heap),
         }
     }
 
-    // Whether opening lines may still come.
-    fn is_opening(&self) -> bool
-        ensures { result ≡ none (sofar self.now).calls }
+    // Whether an opening line may still come.
+    fn opening(&self) -> Result<(), Mistake>
+        ensures { result ≡ cond (none (sofar self.now).calls) (Ok tt) (Err Mistake.LateOpening) }
     {
-        self.calls.is_empty()
-    }
-
-    fn on_window(&self) -> bool
-        ensures { result ≡ on_window self.now.make }
-    {
-        match self.make {
-            None => false,
-            Some(make) => is_window(make),
+        if self.calls.is_empty() {
+            Ok(())
+        } else {
+            Err(Mistake::LateOpening)
         }
     }
 
     fn bus(&mut self, make: Make) -> Result<(), Mistake>
         ensures { map_ok (λ _. sofar self.new) result ≡ with_bus (sofar self.old) make }
     {
-        if !self.is_opening() {
-            return Err(Mistake::LateOpening);
-        }
+        self.opening()?;
         if self.make.is_some() {
             return Err(Mistake::SecondBus);
         }
-        if self.marked && is_window(make) {
+        if self.marks.is_some() && matches!(make, Make::Window) {
             return Err(Mistake::MarksOnWindow);
         }
         self.make = Some(make);
@@ -75,9 +59,7 @@ impl Draft {
     fn chart(&mut self, name: ChartName) -> Result<(), Mistake>
         ensures { map_ok (λ _. sofar self.new) result ≡ with_chart (sofar self.old) name }
     {
-        if !self.is_opening() {
-            return Err(Mistake::LateOpening);
-        }
+        self.opening()?;
         if self.chart.is_some() {
             return Err(Mistake::SecondChart);
         }
@@ -85,17 +67,17 @@ impl Draft {
         Ok(())
     }
 
-    fn marks(&mut self, marks: &[u8]) -> Result<(), LineError>
-        ensures { Gives (λ _. sofar self.new) result (with_marks (sofar self.old) marks.now) }
+    fn marks(&mut self, marks: Vec<u8>) -> Result<(), LineError>
+        ensures { Gives (λ _. sofar self.new) result (with_marks (sofar self.old) (vec_items marks)) }
     {
-        if !self.is_opening() {
-            return Err(LineError::Wrong(Mistake::LateOpening));
-        }
-        if self.on_window() {
+        self.opening()?;
+        if matches!(self.make, Some(Make::Window)) {
             return Err(LineError::Wrong(Mistake::MarksOnWindow));
         }
-        self.marked = true;
-        self.marks.extend_from_slice(marks)?;
+        match &mut self.marks {
+            Some(all) => all.extend_from_slice(marks.as_slice())?,
+            None => self.marks = Some(marks),
+        }
         Ok(())
     }
 
@@ -115,19 +97,20 @@ impl Draft {
         match statement {
             Statement::Bus(make) => Ok(self.bus(make)?),
             Statement::Chart(name) => Ok(self.chart(name)?),
-            Statement::Marks(marks) => self.marks(marks.as_slice()),
+            Statement::Marks(marks) => self.marks(marks),
             Statement::Call(call) => self.call(call),
         }
     }
 
     // Takes what a line says.
-    pub fn line(&mut self, heap: Global, line: &[u8]) -> Result<(), LineError>
+    pub fn line(&mut self, line: &[u8]) -> Result<(), LineError>
         ensures { Gives (λ _. sofar self.new) result (after_line (sofar self.old) line.now) }
     {
-        let Some((name, rest)) = next_word(uncommented(line)) else {
+        let mut words = Words(uncommented(line));
+        let Some(name) = words.next() else {
             return Ok(());
         };
-        let statement = read_statement(heap, name, rest)?;
+        let statement = read_statement(self.heap, name, words.0)?;
         self.take(statement)
     }
 
@@ -135,25 +118,13 @@ impl Draft {
     pub fn finish(self, line: usize) -> Result<Sheet, Fault>
         ensures { Reads result (finished line (sofar self)) }
     {
-        let Draft {
-            make,
-            chart,
-            marked: _,
-            marks,
-            calls,
-        } = self;
-        let Some(make) = make else {
-            return Err(Fault::Wrong {
-                line,
-                mistake: Mistake::NoBus,
-            });
-        };
-        let chart = chart.unwrap_or(ChartName::Head);
+        let mistake = Mistake::NoBus;
+        let make = self.make.ok_or(Fault::Wrong { line, mistake })?;
         Ok(Sheet {
             make,
-            chart,
-            marks,
-            calls,
+            chart: self.chart.unwrap_or(ChartName::Head),
+            marks: self.marks.unwrap_or(Vec::new(self.heap)),
+            calls: self.calls,
         })
     }
 }

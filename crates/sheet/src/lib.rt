@@ -21,7 +21,7 @@ ghost use Rattle.std.specs.Prelude.{◌≡◌};
 ghost use Rattle.sheet.specs.Sheets.{at_line, sheet_of, Reads};
 ghost use Rattle.sheet.specs.declared.LineError.TheVariants.{Memory, Wrong};
 
-use cut::next_line;
+use cut::Lines;
 pub use digits::number;
 use draft::Draft;
 use std::alloc::{AllocError, AllocFailed, Global};
@@ -159,15 +159,8 @@ pub fn read(heap: Global, text: &[u8]) -> Result<Sheet, Fault>
     ensures { Reads result (sheet_of text.now) }
 {
     let mut draft = Draft::new(heap);
-    let mut rest = text;
-    let mut line = 1;
-    while !rest.is_empty() {
-        let (this, after) = next_line(rest);
-        if let Err(error) = draft.line(heap, this) {
-            return Err(error.at(line));
-        }
-        rest = after;
-        line += 1;
+    for (i, line) in Lines(text).enumerate() {
+        draft.line(line).map_err(|error| error.at(i + 1))?;
     }
-    draft.finish(line)
+    draft.finish(Lines(text).count() + 1)
 }

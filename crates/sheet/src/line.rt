@@ -1,9 +1,9 @@
 // Reads the words of one line.
-ghost use Rattle.std.specs.Prelude.{◌≡◌, vec_items};
+ghost use Rattle.std.specs.Prelude.{◌≡◌, ℕ, List, Result, vec_items};
 ghost use Rattle.sheet.specs.Cut.{words_of};
-ghost use Rattle.sheet.specs.Said.{Gives, asked, said, map_ok, call_named, statement_named, bus_of, chart_of, get_of, put_of, measure_of, down_of, up_of, number_of, mark_of, nothing, one_number, two_numbers, numbers_of, marks_of};
+ghost use Rattle.sheet.specs.Said.{Gives, exactly, all_of, asked, said, map_ok, call_named, statement_named, bus_of, chart_of, get_of, put_of, measure_of, number_of, mark_of};
 
-use crate::cut::{next_word, same};
+use crate::cut::Words;
 use crate::digits::number;
 use crate::{Call, ChartName, LineError, Make, Mistake};
 use std::alloc::Global;
@@ -16,9 +16,6 @@ pub enum Statement {
     Call(Call),
 }
 
-// A mark has 8 bits.
-const MARKS: u16 = 256;
-
 fn a_number(word: &[u8]) -> Result<u16, Mistake>
     ensures { result ≡ number_of word.now }
 {
@@ -28,63 +25,35 @@ fn a_number(word: &[u8]) -> Result<u16, Mistake>
 fn a_mark(word: &[u8]) -> Result<u8, Mistake>
     ensures { result ≡ mark_of word.now }
 {
-    let n = a_number(word)?;
-    if n >= MARKS {
-        return Err(Mistake::NotAMark);
+    u8::try_from(a_number(word)?).map_err(|_| Mistake::NotAMark)
+}
+
+// The `N` numbers of a line that has just so many words left.
+fn numbers<const N: usize>(rest: &[u8]) -> Result<[u16; N], Mistake>
+    ensures { result ≡ exactly N (words_of rest.now) }
+{
+    if Words(rest).count() != N {
+        return Err(Mistake::WordCount);
     }
-    Ok(n as u8)
-}
-
-fn no_words(rest: &[u8]) -> Result<(), Mistake>
-    ensures { result ≡ nothing (words_of rest.now) }
-{
-    match next_word(rest) {
-        None => Ok(()),
-        Some(_) => Err(Mistake::WordCount),
+    let mut numbers = [0; N];
+    for (i, word) in Words(rest).enumerate() {
+        numbers[i] = a_number(word)?;
     }
+    Ok(numbers)
 }
 
-fn one_number(rest: &[u8]) -> Result<u16, Mistake>
-    ensures { result ≡ one_number (words_of rest.now) }
-{
-    let Some((word, rest)) = next_word(rest) else {
-        return Err(Mistake::WordCount);
-    };
-    no_words(rest)?;
-    a_number(word)
-}
-
-fn two_numbers(rest: &[u8]) -> Result<(u16, u16), Mistake>
-    ensures { result ≡ two_numbers (words_of rest.now) }
-{
-    let Some((first, rest)) = next_word(rest) else {
-        return Err(Mistake::WordCount);
-    };
-    let Some((second, rest)) = next_word(rest) else {
-        return Err(Mistake::WordCount);
-    };
-    no_words(rest)?;
-    Ok((a_number(first)?, a_number(second)?))
-}
-
-fn all_numbers(heap: Global, mut rest: &[u8]) -> Result<Vec<u16>, LineError>
-    ensures { Gives vec_items result (numbers_of (words_of rest.now)) }
+// What each word says.
+fn all<T: Drop, F: Fn(&[u8]) -> Result<T, Mistake>>(
+    heap: Global,
+    rest: &[u8],
+    read: F,
+) -> Result<Vec<T>, LineError>
+    requires { F.IsAlwaysCallable read }
+    ensures { (f : List ℕ → Result T Mistake) → ((w : _) (r : _) → F.post read w r → r ≡ f w.now) → Gives vec_items result (all_of f (words_of rest.now)) }
 {
     let mut all = Vec::new(heap);
-    while let Some((word, after)) = next_word(rest) {
-        all.push(a_number(word)?)?;
-        rest = after;
-    }
-    Ok(all)
-}
-
-fn all_marks(heap: Global, mut rest: &[u8]) -> Result<Vec<u8>, LineError>
-    ensures { Gives vec_items result (marks_of (words_of rest.now)) }
-{
-    let mut all = Vec::new(heap);
-    while let Some((word, after)) = next_word(rest) {
-        all.push(a_mark(word)?)?;
-        rest = after;
+    for word in Words(rest) {
+        all.push(read(word)?)?;
     }
     Ok(all)
 }
@@ -92,89 +61,73 @@ fn all_marks(heap: Global, mut rest: &[u8]) -> Result<Vec<u8>, LineError>
 fn bus(rest: &[u8]) -> Result<Make, Mistake>
     ensures { result ≡ bus_of (words_of rest.now) }
 {
-    let Some((make, rest)) = next_word(rest) else {
-        return Err(Mistake::WordCount);
-    };
-    if same(make, b"i2c") {
-        Ok(Make::I2c(one_number(rest)?))
-    } else if same(make, b"window") {
-        no_words(rest)?;
-        Ok(Make::Window)
-    } else {
-        Err(Mistake::UnknownBus)
+    let mut words = Words(rest);
+    match words.next().ok_or(Mistake::WordCount)? {
+        b"i2c" => {
+            let [address] = numbers::<1>(words.0)?;
+            Ok(Make::I2c(address))
+        }
+        b"window" => {
+            let [] = numbers::<0>(words.0)?;
+            Ok(Make::Window)
+        }
+        _ => Err(Mistake::UnknownBus),
     }
 }
 
 fn chart(rest: &[u8]) -> Result<ChartName, Mistake>
     ensures { result ≡ chart_of (words_of rest.now) }
 {
-    let Some((name, rest)) = next_word(rest) else {
+    let mut words = Words(rest);
+    let (Some(name), None) = (words.next(), words.next()) else {
         return Err(Mistake::WordCount);
     };
-    no_words(rest)?;
-    if same(name, b"head") {
-        Ok(ChartName::Head)
-    } else if same(name, b"valve") {
-        Ok(ChartName::Valve)
-    } else {
-        Err(Mistake::UnknownChart)
+    match name {
+        b"head" => Ok(ChartName::Head),
+        b"valve" => Ok(ChartName::Valve),
+        _ => Err(Mistake::UnknownChart),
     }
 }
 
 fn get(rest: &[u8]) -> Result<Call, Mistake>
     ensures { map_ok asked result ≡ get_of (words_of rest.now) }
 {
-    let raw = one_number(rest)?;
+    let [raw] = numbers::<1>(rest)?;
     Ok(Call::Get { raw })
 }
 
 fn put(heap: Global, rest: &[u8]) -> Result<Call, LineError>
     ensures { Gives asked result (put_of (words_of rest.now)) }
 {
-    let Some((word, rest)) = next_word(rest) else {
-        return Err(LineError::Wrong(Mistake::WordCount));
-    };
-    let raw = a_number(word)?;
-    let words = all_numbers(heap, rest)?;
+    let mut words = Words(rest);
+    let raw = a_number(words.next().ok_or(Mistake::WordCount)?)?;
+    let words = all(heap, words.0, a_number)?;
     Ok(Call::Put { raw, words })
 }
 
 fn measure(rest: &[u8]) -> Result<Call, Mistake>
     ensures { map_ok asked result ≡ measure_of (words_of rest.now) }
 {
-    let (register, word) = two_numbers(rest)?;
+    let [register, word] = numbers::<2>(rest)?;
     Ok(Call::Measure { register, word })
-}
-
-fn down(rest: &[u8]) -> Result<Call, Mistake>
-    ensures { map_ok asked result ≡ down_of (words_of rest.now) }
-{
-    no_words(rest)?;
-    Ok(Call::Down)
-}
-
-fn up(rest: &[u8]) -> Result<Call, Mistake>
-    ensures { map_ok asked result ≡ up_of (words_of rest.now) }
-{
-    no_words(rest)?;
-    Ok(Call::Up)
 }
 
 fn read_call(heap: Global, name: &[u8], rest: &[u8]) -> Result<Call, LineError>
     ensures { Gives asked result (call_named name.now (words_of rest.now)) }
 {
-    if same(name, b"get") {
-        Ok(get(rest)?)
-    } else if same(name, b"put") {
-        put(heap, rest)
-    } else if same(name, b"measure") {
-        Ok(measure(rest)?)
-    } else if same(name, b"down") {
-        Ok(down(rest)?)
-    } else if same(name, b"up") {
-        Ok(up(rest)?)
-    } else {
-        Err(LineError::Wrong(Mistake::UnknownStatement))
+    match name {
+        b"get" => Ok(get(rest)?),
+        b"put" => put(heap, rest),
+        b"measure" => Ok(measure(rest)?),
+        b"down" => {
+            let [] = numbers::<0>(rest)?;
+            Ok(Call::Down)
+        }
+        b"up" => {
+            let [] = numbers::<0>(rest)?;
+            Ok(Call::Up)
+        }
+        _ => Err(LineError::Wrong(Mistake::UnknownStatement)),
     }
 }
 
@@ -182,13 +135,10 @@ fn read_call(heap: Global, name: &[u8], rest: &[u8]) -> Result<Call, LineError>
 pub fn read_statement(heap: Global, name: &[u8], rest: &[u8]) -> Result<Statement, LineError>
     ensures { Gives said result (statement_named name.now (words_of rest.now)) }
 {
-    if same(name, b"bus") {
-        Ok(Statement::Bus(bus(rest)?))
-    } else if same(name, b"chart") {
-        Ok(Statement::Chart(chart(rest)?))
-    } else if same(name, b"marks") {
-        Ok(Statement::Marks(all_marks(heap, rest)?))
-    } else {
-        Ok(Statement::Call(read_call(heap, name, rest)?))
+    match name {
+        b"bus" => Ok(Statement::Bus(bus(rest)?)),
+        b"chart" => Ok(Statement::Chart(chart(rest)?)),
+        b"marks" => Ok(Statement::Marks(all(heap, rest, a_mark)?)),
+        _ => Ok(Statement::Call(read_call(heap, name, rest)?)),
     }
 }

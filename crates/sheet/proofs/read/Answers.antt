@@ -1,34 +1,18 @@
-use Rattle.std.proofs.Common.{◌≡◌, ◌+◌, ◌<◌, length, Err, sym, ap, subst, arith, true-eqb, false-eqb}
+use Rattle.std.proofs.Common.{◌≡◌, length, true, arith, refl, inl}
+use Rattle.std.proofs.lemmas.Iterator.Consumers.{YieldsList-from_first, count_from_yields_List}
 use Rattle.sheet.specs.Cut.{lines_of}
-use Rattle.sheet.specs.Sheets.{sofar, after_line, onward, read_from, sheet_of, Reads}
-use Rattle.sheet.proofs.Reading.{at_next_line, stops, goes, at_end, shorter}
+use Rattle.sheet.proofs.Cutting.{few_lines}
 use Rattle.sheet.proofs.read.Goals as goal
-use Rattle.sheet.proofs.read.Goals.{After-next_line}
 
--- what the text gives, by what this line says
-here : (c : After-next_line) → sheet_of c.args.text.now ≡ onward c.loop-rest.line (read_from (lines_of c.next_line.result.1.now) (c.loop-rest.line + 1)) (after_line (sofar c.loop-rest.draft) c.next_line.result.0.now)
-here c =
-    at_next_line _ c.loop-rest.rest.now c.next_line.result.0.now c.next_line.result.1.now _ _ c.loop-rest.invariant.0
-    (false-eqb _ 0 c.loop-rest-test.ensures) c.next_line.ensures.front c.next_line.ensures.back
+pub loop-i-init-derived : goal.loop-i-init-derived
+loop-i-init-derived c =
+    let few = few_lines true c.args.text.now in
+    ((tt, tt, inl (rw (c.into_iter-i-iterator.ensures.into_iter_gives, c.enumerate-i-items.ensures.source, c.enumerate-i-items.ensures.count) (omega arith))), tt)
 
-less : (c : After-next_line) → length c.next_line.result.1.now < length c.loop-rest.rest.now
-less c =
-    omega (arith, ap length c.next_line.ensures.back, shorter 10 c.loop-rest.rest.now (false-eqb _ 0 c.loop-rest-test.ensures))
+pub count-requires-clause-fits : goal.count-requires-clause-fits
+count-requires-clause-fits c = inl (omega (arith, few_lines true c.args.text.now))
 
-pub returns-in-Err : goal.returns-in-Err
-returns-in-Err c =
-    subst (λ e. Reads (Err e) (sheet_of c.args.text.now)) (sym c.at.ensures)
-    (stops _ _ _ _ c.in-Err.error (sofar c.line.new.self) (here (goal.at.returns-in-Err c).After-next_line) c.in-Err.ensures)
-
-pub loop-rest-smaller : goal.loop-rest-smaller
-loop-rest-smaller c = less (goal.at.loop-rest-smaller c).After-next_line
-
-pub loop-rest-preserved : goal.loop-rest-preserved
-loop-rest-preserved c =
-    let at = (goal.at.loop-rest-preserved c).After-next_line in
-    (goes _ _ (read_from (lines_of c.next_line.result.1.now) (c.loop-rest.line + 1)) (after_line (sofar c.loop-rest.draft) c.next_line.result.0.now) (sofar c.line.new.self) (here at) c.in_default.ensures, omega (arith, less at, c.loop-rest.invariant.1))
-
-pub returns : goal.returns
-returns c =
-    let end = at_end _ c.loop-rest.rest.now c.loop-rest.line (sofar c.loop-rest.draft) c.loop-rest.invariant.0 (true-eqb _ 0 c.loop-rest-test.ensures) in
-    subst (Reads c.finish.result) (sym end) c.finish.ensures
+pub overflow_add-count : goal.overflow_add-count
+overflow_add-count c =
+    let n : c.count.result ≡ length (lines_of c.args.text.now) = count_from_yields_List _ _ c.count.ensures.ran (YieldsList-from_first (λ x. x.now) (λ s. lines_of s.0.now) (lines_of c.args.text.now) refl) in
+    omega (arith, few_lines true c.args.text.now)

@@ -1,19 +1,22 @@
-use Rattle.std.proofs.Common.{refl, arith}
-use Rattle.sheet.proofs.Cutting.{found, missed, nowhere}
+use Rattle.std.proofs.Common.{◌≡◌, eqb, rules, arith}
+use Rattle.std.specs.List.{position}
+use Rattle.std.proofs.lemmas.Grind.{common_steps}
+use Rattle.std.proofs.lemmas.Iterator.{YieldsList-from_slice}
+use Rattle.std.proofs.lemmas.Iterator.Search.{position_from_yields_List}
 use Rattle.sheet.proofs.cut.split_once.Goals as goal
+use Rattle.sheet.proofs.cut.split_once.Goals.{After-position}
 
-pub loop-i-init : goal.loop-i-init
-loop-i-init c = record { front = refl; back = refl }
+at : (c : After-position) → c.position.result ≡ position (λ x. eqb x c.args.b) c.args.s.now
+at c = position_from_yields_List (λ x. eqb x c.args.b) _ _ _ c.position.ensures.ran (YieldsList-from_slice c.args.s.now cc) (λ x b q k. search rules)
 
-pub returns-then-c-b : goal.returns-then-c-b
-returns-then-c-b c =
-    let h = found _ _ _ c.loop-i.invariant c.loop-i-test.true c.if-c-b.true in
-    record { front = h.0; back = h.1 }
+pub returns-in-Some-clause-front : goal.returns-in-Some-clause-front
+returns-in-Some-clause-front c = grind (arith, common_steps, at (goal.at.returns-in-Some-clause-front c).After-position)
 
-pub loop-i-preserved : goal.loop-i-preserved
-loop-i-preserved c = missed _ _ _ c.loop-i.invariant c.loop-i-test.true c.if-c-b.false
+pub returns-in-Some-clause-back : goal.returns-in-Some-clause-back
+returns-in-Some-clause-back c = grind (arith, common_steps, at (goal.at.returns-in-Some-clause-back c).After-position)
 
-pub returns : goal.returns
-returns c =
-    let h = nowhere _ _ _ c.loop-i.invariant (omega arith) in
-    record { front = h.0; back = h.1 }
+pub returns-in-None-clause-front : goal.returns-in-None-clause-front
+returns-in-None-clause-front c = grind (arith, common_steps, at (goal.at.returns-in-None-clause-front c).After-position)
+
+pub returns-in-None-clause-back : goal.returns-in-None-clause-back
+returns-in-None-clause-back c = grind (arith, common_steps, at (goal.at.returns-in-None-clause-back c).After-position)

@@ -1,19 +1,16 @@
-use Rattle.std.proofs.Common.{arith, false-eqb}
-use Rattle.sheet.proofs.Digiting.{none_read, no_digit, grown, one_more, all_read}
+use Rattle.std.proofs.Common.{arith}
+use Rattle.sheet.proofs.Digiting.{grown, all_read}
 use Rattle.sheet.proofs.digits.in_base.Goals as goal
 
-pub loop-c-init : goal.loop-c-init
-loop-c-init c = none_read _ _ (omega (arith, false-eqb _ 0 c.if-is_empty.ensures))
+pub returns-in_err-checked_mul : goal.returns-in_err-checked_mul
+returns-in_err-checked_mul c =
+    let d = c.in_ok-digit.ensures.value in
+    let h = grown c.args.base c.args.digits.now c.loop-c.n c.loop-c.c-index c.loop-c.invariant.1 c.requires.few c.loop-c-test.true c.in_ok-digit.field-0 (cc) (omega (arith, d.0, d.1)) (omega arith) (omega (arith, c.in_err-checked_mul.ensures)) in cc
 
-pub returns-then-d-base : goal.returns-then-d-base
-returns-then-d-base c = no_digit _ _ _ _ c.loop-c.invariant c.loop-c-test.true _ c.worth-d.ensures c.if-d-base.true
-
-pub returns-then-n-ge-LIMIT : goal.returns-then-n-ge-LIMIT
-returns-then-n-ge-LIMIT c =
-    grown _ _ _ _ c.loop-c.invariant c.requires.some c.loop-c-test.true _ c.worth-d.ensures c.if-d-base.false (omega arith)
-
-pub loop-c-preserved : goal.loop-c-preserved
-loop-c-preserved c = one_more _ _ _ _ c.loop-c.invariant c.loop-c-test.true _ c.worth-d.ensures c.if-d-base.false (omega arith)
+pub returns-in_err-n : goal.returns-in_err-n
+returns-in_err-n c =
+    let d = c.in_ok-digit.ensures.value in
+    let h = grown c.args.base c.args.digits.now c.loop-c.n c.loop-c.c-index c.loop-c.invariant.1 c.requires.few c.loop-c-test.true c.in_ok-digit.field-0 (cc) (omega (arith, d.0, d.1)) (omega arith) (omega (arith, c.in_err-n.ensures)) in cc
 
 pub returns : goal.returns
-returns c = all_read _ _ _ _ c.loop-c.invariant (omega arith)
+returns c = all_read _ _ _ c.loop-c.c-index c.loop-c.invariant.1 c.loop-c.invariant.0 (omega arith)
