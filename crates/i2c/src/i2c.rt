@@ -3,7 +3,6 @@
 ghost use Rattle.std.specs.Prelude.{◌≡◌, ◌<◌, ◌≤◌, length};
 ghost use Rattle.std.specs.Option.{SomeIff};
 ghost use Rattle.chart.specs.Replies.{reply, word_value, no_value};
-ghost use Rattle.i2c_target.specs.Traces.{traced};
 ghost use Rattle.bus.specs.I2cs.{I2cModel, get_sent, put_sent, i2c_steps, i2c_chip, i2c_trace, I2cSound, I2cNew};
 ghost use Rattle.bus.proofs.I2cMeaning.{i2c_meaning};
 ghost use Rattle.i2c.specs.Made.{i2c_model, Addressable, I2cMade};
@@ -41,7 +40,7 @@ impl<'a, C: Chart> I2c<'a, C> {
     // A new chip at an address, with marks for the transfers to come and a trace for what will pass; where no target may
     // have the address, the trace is handed back.
     pub fn new(address: u16, marks: &'a [u8], trace: Trace) -> Result<I2c<'a, C>, Unmade<Trace>>
-        ensures { I2cMade C.Chart.resets address marks.now (traced trace) result }
+        ensures { I2cMade C.Chart.resets address marks.now trace result }
     {
         let Some(address) = target_address(address) else {
             return Err(Unmade {

@@ -3,7 +3,6 @@ ghost use Rattle.std.specs.Prelude.{◌≡◌, ◌+◌, ◌*◌, length};
 ghost use Rattle.i2c_target.specs.declared.event.Event.TheVariants.{Byte};
 ghost use Rattle.i2c_target.specs.Targets.{given};
 ghost use Rattle.wire.specs.Frames.{own, pointed_at, passed, carried, sent, answer, cause_of_put, cause_of_get, word_bytes, put_bytes, head_bytes, put_frame, fetching, get_frame, Recovered, Untouched, new_wired, with_register};
-ghost use Rattle.i2c_target.specs.Traces.{traced};
 
 use chart::class::Chart;
 use chart::refusal::Cause;
@@ -21,18 +20,17 @@ pub struct Wire {
 }
 
 impl Model for Wire {
-    ghost use Rattle.i2c_target.specs.Traces.{traced};
     ghost use Rattle.wire.specs.Frames.{Wired, made_of};
 
     ghost Value = { Wired };
 
-    ghost view = { λ w. made_of w.target w.words (traced w.trace) };
+    ghost view = { λ w. made_of w.target w.words w.trace };
 }
 
 impl Wire {
     // A new chip at an address, its words as its chart resets them.
     pub fn new<C: Chart>(address: u8, trace: Trace) -> Wire
-        ensures { result ≡ new_wired C.Chart.resets address (traced trace) }
+        ensures { result ≡ new_wired C.Chart.resets address trace }
     {
         let mut words = [0; memory::WORDS];
         memory::reset::<C>(&mut words);
