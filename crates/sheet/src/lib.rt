@@ -97,7 +97,8 @@ pub enum Fault {
     Wrong { line: usize, mistake: Mistake },
 }
 
-// Why a line is not taken: it is wrong, or there is no memory for it.
+// Why a line is not taken: it is wrong, or there is no memory for it. Its `From` is by hand, since a derived one does not say
+// which variant `?` makes.
 #[derive(Drop)]
 enum LineError {
     Memory,
@@ -147,5 +148,6 @@ pub fn read(heap: Global, text: &[u8]) -> Result<Sheet, Fault>
     for (i, line) in Lines(text).enumerate() {
         draft.line(line).map_err(|error| error.at(i + 1))?;
     }
+    // What the sheet lacks as a whole is told of the line after its last.
     draft.finish(Lines(text).count() + 1)
 }
