@@ -1,4 +1,3 @@
 mod Cutting
 mod Digiting
-mod Drafting
 mod Listing

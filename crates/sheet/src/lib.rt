@@ -25,7 +25,7 @@ use cut::Lines;
 pub use digits::number;
 use draft::Draft;
 use std::alloc::{AllocError, AllocFailed, Global};
-use std::fmt;
+use thiserror::Error;
 
 mod cut;
 mod digits;
@@ -54,38 +54,30 @@ pub enum Call {
     Up,
 }
 
-#[derive(Clone, Copy, Debug, PartialEq, Eq)]
+#[derive(Clone, Copy, Debug, PartialEq, Eq, Error)]
 pub enum Mistake {
+    #[error("unknown statement")]
     UnknownStatement,
+    #[error("wrong number of words")]
     WordCount,
+    #[error("not a number from 0 to 65535")]
     NotANumber,
+    #[error("a mark above 255")]
     NotAMark,
+    #[error("unknown make of bus")]
     UnknownBus,
+    #[error("unknown chart")]
     UnknownChart,
+    #[error("a second bus line")]
     SecondBus,
+    #[error("a second chart line")]
     SecondChart,
+    #[error("an opening line after the first call")]
     LateOpening,
+    #[error("no bus line before this")]
     NoBus,
+    #[error("marks together with a window")]
     MarksOnWindow,
-}
-
-impl fmt::Display for Mistake {
-    fn fmt<W: fmt::Write>(&self, f: &mut fmt::Formatter<W>) -> fmt::Result {
-        let text = match self {
-            Mistake::UnknownStatement => "unknown statement",
-            Mistake::WordCount => "wrong number of words",
-            Mistake::NotANumber => "not a number from 0 to 65535",
-            Mistake::NotAMark => "a mark above 255",
-            Mistake::UnknownBus => "unknown make of bus",
-            Mistake::UnknownChart => "unknown chart",
-            Mistake::SecondBus => "a second bus line",
-            Mistake::SecondChart => "a second chart line",
-            Mistake::LateOpening => "an opening line after the first call",
-            Mistake::NoBus => "no bus line before this",
-            Mistake::MarksOnWindow => "marks together with a window",
-        };
-        write!(f, "{text}")
-    }
 }
 
 #[derive(Debug, PartialEq, Eq, Drop)]
@@ -97,22 +89,16 @@ pub struct Sheet {
 }
 
 // Why a sheet is not taken. Lines are numbered from 1.
-#[derive(Debug, PartialEq, Eq, Drop)]
+#[derive(Debug, PartialEq, Eq, Drop, Error)]
 pub enum Fault {
+    #[error("out of memory")]
     Memory,
+    #[error("line {line}: {mistake}")]
     Wrong { line: usize, mistake: Mistake },
 }
 
-impl fmt::Display for Fault {
-    fn fmt<W: fmt::Write>(&self, f: &mut fmt::Formatter<W>) -> fmt::Result {
-        match self {
-            Fault::Memory => write!(f, "out of memory"),
-            Fault::Wrong { line, mistake } => write!(f, "line {line}: {mistake}"),
-        }
-    }
-}
-
-// Why a line is not taken: it is wrong, or there is no memory for it.
+// Why a line is not taken: it is wrong, or there is no memory for it. Its `From` is by hand, since a derived one does not say
+// which variant `?` makes.
 #[derive(Drop)]
 enum LineError {
     Memory,
@@ -162,5 +148,6 @@ pub fn read(heap: Global, text: &[u8]) -> Result<Sheet, Fault>
     for (i, line) in Lines(text).enumerate() {
         draft.line(line).map_err(|error| error.at(i + 1))?;
     }
+    // What the sheet lacks as a whole is told of the line after its last.
     draft.finish(Lines(text).count() + 1)
 }

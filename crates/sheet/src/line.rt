@@ -36,13 +36,14 @@ fn numbers<const N: usize>(rest: &[u8]) -> Result<[u16; N], Mistake>
         return Err(Mistake::WordCount);
     }
     let mut numbers = [0; N];
+    // By the index, since a proof learns nothing of what a `zip` of `iter_mut` wrote.
     for (i, word) in Words(rest).enumerate() {
         numbers[i] = a_number(word)?;
     }
     Ok(numbers)
 }
 
-// What each word says.
+// What each word says, where `read` reads one.
 fn all<T: Drop, F: Fn(&[u8]) -> Result<T, Mistake>>(
     heap: Global,
     rest: &[u8],
