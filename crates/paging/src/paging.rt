@@ -6,11 +6,11 @@ ghost use Rattle.paging.specs.Made.{paging_model};
 ghost use Rattle.pages.proofs.PagingMeaning.{paging_meaning};
 
 use bus::bus::Bus;
+use bus::checks::check_measure;
 use chart::class::Chart;
 use chart::patch::Patch;
 use chart::refusal::{Errand, Failure, Fault, Refusal};
 use pages::places::{place_of, room_of};
-use port::checks::{measure_refusal, read_refusal, run_refusal, update_refusal};
 use port::port::Port;
 
 #[derive(Drop)]
@@ -88,10 +88,9 @@ impl<B: Bus> Paging<B> {
         ensures { (port_reply word_value result, paging_model B.Bus.model self.new) ≡ fetched (B.Bus.steps B.Chart.Chart.classed B.Chart.Chart.resets) (paging_model B.Bus.model self.old) register }
     {
         self.reach(register)?;
-        match self.bus.get(place_of(register).raw) {
-            Ok(word) => Ok(word),
-            Err(refusal) => Err(at_register(refusal, register)),
-        }
+        self.bus
+            .get(place_of(register).raw)
+            .map_err(|refusal| at_register(refusal, register))
     }
 
     // One put, to registers of one page.
@@ -100,10 +99,9 @@ impl<B: Bus> Paging<B> {
         ensures { (port_reply no_value result, paging_model B.Bus.model self.new) ≡ piece_sent (B.Bus.steps B.Chart.Chart.classed B.Chart.Chart.resets) (paging_model B.Bus.model self.old) first words.now }
     {
         self.reach(first)?;
-        match self.bus.put(place_of(first).raw, words) {
-            Ok(()) => Ok(()),
-            Err(refusal) => Err(at_register(refusal, first)),
-        }
+        self.bus
+            .put(place_of(first).raw, words)
+            .map_err(|refusal| at_register(refusal, first))
     }
 
     // The word goes out where it differs.
@@ -154,7 +152,9 @@ impl<B: Bus> Port for Paging<B> {
 
     type Bus = B;
 
-    ghost keeps = { false };
+    const KEEPS: bool = false;
+
+    ghost KEEPS = { false };
 
     ghost Model = { PagingModel B.Bus.Model };
 
@@ -177,10 +177,6 @@ impl<B: Bus> Port for Paging<B> {
         let bus = B.Bus in
         paging_meaning rules (bus.steps chart.classed chart.resets) bus.chip bus.Sound (bus.New chart.resets) (bus.meaning chart.counted chart.classed chart.resets rules) };
 
-    fn keeps() -> bool {
-        false
-    }
-
     fn bus(&self) -> &B {
         &self.bus
     }
@@ -190,37 +186,25 @@ impl<B: Bus> Port for Paging<B> {
     }
 
     fn read(&mut self, register: u16) -> Result<u16, Refusal<Fault>> {
-        let class = B::Chart::class(register);
-        if let Some(refusal) = read_refusal(false, class, self.bus.supply()) {
-            return Err(refusal);
-        }
+        self.access().check_read(B::Chart::class(register))?;
         self.fetch(register)
     }
 
     fn update(&mut self, register: u16, patch: Patch) -> Result<(), Refusal<Fault>> {
-        let class = B::Chart::class(register);
-        if let Some(refusal) = update_refusal(false, class, self.bus.supply()) {
-            return Err(refusal);
-        }
+        self.access().check_update(B::Chart::class(register))?;
         self.send_update(register, patch)
     }
 
     fn run(&mut self, first: u16, words: &[u16]) -> Result<(), Refusal<Fault>> {
-        let supply = self.bus.supply();
-        if let Some(refusal) = run_refusal::<B::Chart>(false, first, words.len(), supply) {
-            return Err(refusal);
-        }
+        self.access().check_run::<B::Chart>(first, words.len())?;
         self.send_run(first, words)
     }
 
     fn measure(&mut self, register: u16, word: u16) -> Result<(), Refusal<Fault>> {
-        if let Some(refusal) = measure_refusal(B::Chart::class(register)) {
-            return Err(refusal);
-        }
-        match self.bus.measure(register, word) {
-            Ok(()) => Ok(()),
-            Err(refusal) => Err(at_register(refusal, register)),
-        }
+        check_measure(B::Chart::class(register))?;
+        self.bus
+            .measure(register, word)
+            .map_err(|refusal| at_register(refusal, register))
     }
 
     fn down(&mut self) {

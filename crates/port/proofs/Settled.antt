@@ -1,7 +1,10 @@
 -- What is known of a call that is not refused before anything is sent. Assumes nothing.
-use Rattle.std.proofs.Common.{◌≡◌, ℕ, zero, suc, ◌+◌, ◌-◌, ◌<◌, ◌≤◌, Bool, true, false, ◌||◌, eqb, ltb, Some, None, Option, sym, refl, ap, ◌∙◌, ⊎_elim, arith}
+use Rattle.std.proofs.Common.{◌≡◌, ℕ, zero, suc, ◌+◌, ◌-◌, ◌<◌, ◌≤◌, Bool, true, false, ◌||◌, [], ◌∷◌, eqb, ltb, map, Some, None, Option, sym, refl, ap, ◌∙◌, ⊎_elim, add-one, arith}
 use Rattle.std.proofs.lemmas.Bool.{cases_Bool, cases_lt, cases_eq, or_right}
 use Rattle.std.proofs.lemmas.Bool.Decides.{nat_tests}
+use Rattle.std.specs.List.{fold, range_with_len}
+use Rattle.std.proofs.lemmas.List.FromFn.{map-range_with_len_more}
+use Rattle.std.proofs.lemmas.List.Sums.{fold-append}
 use Rattle.chart.specs.Replies.{Reply}
 use Rattle.chart.specs.Rules.{ChartRules}
 use Rattle.chart.specs.declared.class.Class.{Class}
@@ -47,6 +50,15 @@ worse_settled Setting b e = (refl, e)
 worse_settled Live Absent e = absurd (no_setting_absent (sym e))
 worse_settled Live Setting e = absurd (no_setting_live (sym e))
 worse_settled Live Live e = absurd (no_setting_live (sym e))
+
+-- the worst of a range of numbers, folded from its first
+pub worst_folds : (class : ℕ → Class) (first n : ℕ) → fold worse Setting (map class (range_with_len first n)) ≡ worst class first n
+worst_folds class first zero = refl
+worst_folds class first (suc n) =
+    ap (λ k. fold worse Setting (map class (range_with_len first k))) (sym (add-one n))
+    ∙ ap (fold worse Setting) (map-range_with_len_more class first n (first + n) refl)
+    ∙ fold-append worse Setting (map class (range_with_len first n)) (class (first + n) ∷ [])
+    ∙ ap (λ c. worse c (class (first + n))) (worst_folds class first n)
 
 -- every register of a run is a setting where the worst is
 pub all_settings : (class : ℕ → Class) (first n : ℕ) → worst class first n ≡ Setting → (i : ℕ) → i < n → class (first + i) ≡ Setting
