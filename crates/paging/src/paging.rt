@@ -1,7 +1,7 @@
 // Every register by its number, over any bus: a page is selected where it is not believed to be.
 ghost use Rattle.std.specs.Prelude.{◌≡◌, ◌+◌, ◌<◌, ◌≤◌, false, length, Some};
 ghost use Rattle.chart.specs.Replies.{told, failure_values, fault_values, port_reply, word_value, no_value};
-ghost use Rattle.pages.specs.Machine.{PagingModel, PagingSound, PagingNew, paged, located, ready, reached, fetched, piece_sent, rewritten, update_sent, run_sent, paging_steps, paging_shown};
+ghost use Rattle.pages.specs.Machine.{PagingModel, PagingSound, PagingNew, paged, located, reached, fetched, piece_sent, rewritten, update_sent, run_sent, paging_steps, paging_shown};
 ghost use Rattle.paging.specs.Made.{paging_model};
 ghost use Rattle.pages.proofs.PagingMeaning.{paging_meaning};
 
@@ -10,7 +10,7 @@ use bus::checks::check_measure;
 use chart::class::Chart;
 use chart::patch::Patch;
 use chart::refusal::{Errand, Failure, Fault, Refusal};
-use pages::places::{place_of, room_of};
+use pages::places::{room_of, Place};
 use port::port::Port;
 
 #[derive(Drop)]
@@ -20,35 +20,23 @@ pub struct Paging<B> {
     page: Option<u16>,
 }
 
-// A refusal of the bus, where a fault names the first register that was not stored.
-fn at_register(refusal: Refusal<Failure>, register: u16) -> Refusal<Fault>
-    requires { register < 128 }
-    ensures { told fault_values result ≡ located register (told failure_values refusal) }
-{
-    match refusal {
-        Refusal::Length => Refusal::Length,
-        Refusal::Register => Refusal::Register,
-        Refusal::Live => Refusal::Live,
-        Refusal::Setting => Refusal::Setting,
-        Refusal::Asleep => Refusal::Asleep,
-        Refusal::Line(failure) => Refusal::Line(Fault {
-            cause: failure.cause,
-            register: register + u16::from(failure.stored),
-            errand: Errand::Asked,
-        }),
-        Refusal::Address => Refusal::Address,
-        Refusal::Memory => Refusal::Memory,
-    }
+// A register that the chart has.
+#[derive(Clone, Copy)]
+struct Register {
+    number: u16,
+    ghost small: { number < 128 },
 }
 
-// Whether a register can be reached as things are.
-fn is_ready(page: Option<u16>, register: u16) -> bool
-    ensures { result ≡ ready page register }
-{
-    match page {
-        _ if register < 32 => true,
-        Some(page) => page == place_of(register).page,
-        None => false,
+impl Register {
+    // A refusal of the bus, where a fault names the first register that was not stored.
+    fn locate(self, refusal: Refusal<Failure>) -> Refusal<Fault>
+        ensures { told fault_values result ≡ located self.number (told failure_values refusal) }
+    {
+        refusal.map(|failure| Fault {
+            cause: failure.cause,
+            register: self.number + u16::from(failure.stored),
+            errand: Errand::Asked,
+        })
     }
 }
 
@@ -61,53 +49,45 @@ impl<B: Bus> Paging<B> {
         Paging { bus, page: Some(0) }
     }
 
-    // Selects the page of a register, unless it is believed to be selected.
-    fn reach(&mut self, register: u16) -> Result<(), Refusal<Fault>>
-        requires { register < 128 }
-        ensures { (port_reply no_value result, paging_model B.Bus.model self.new) ≡ reached (B.Bus.steps B.Chart.Chart.classed B.Chart.Chart.resets) (paging_model B.Bus.model self.old) register }
+    // Selects the page of a register, unless it is believed to be selected. While that may fail, no page is.
+    fn reach(&mut self, register: Register) -> Result<(), Refusal<Fault>>
+        ensures { (port_reply no_value result, paging_model B.Bus.model self.new) ≡ reached (B.Bus.steps B.Chart.Chart.classed B.Chart.Chart.resets) (paging_model B.Bus.model self.old) register.number }
     {
-        if is_ready(self.page, register) {
+        let page = Place::of(register.number).page;
+        if register.number < 32 || self.page == Some(page) {
             return Ok(());
         }
-        let page = place_of(register).page;
-        match self.bus.put(0, &[page]) {
-            Ok(()) => {
-                self.page = Some(page);
-                Ok(())
-            }
-            Err(refusal) => {
-                self.page = None;
-                Err(at_register(refusal, register))
-            }
-        }
+        self.page = None;
+        self.bus
+            .put(0, &[page])
+            .map_err(|refusal| register.locate(refusal))?;
+        self.page = Some(page);
+        Ok(())
     }
 
     // A get of one register.
-    fn fetch(&mut self, register: u16) -> Result<u16, Refusal<Fault>>
-        requires { register < 128 }
-        ensures { (port_reply word_value result, paging_model B.Bus.model self.new) ≡ fetched (B.Bus.steps B.Chart.Chart.classed B.Chart.Chart.resets) (paging_model B.Bus.model self.old) register }
+    fn fetch(&mut self, register: Register) -> Result<u16, Refusal<Fault>>
+        ensures { (port_reply word_value result, paging_model B.Bus.model self.new) ≡ fetched (B.Bus.steps B.Chart.Chart.classed B.Chart.Chart.resets) (paging_model B.Bus.model self.old) register.number }
     {
         self.reach(register)?;
         self.bus
-            .get(place_of(register).raw)
-            .map_err(|refusal| at_register(refusal, register))
+            .get(Place::of(register.number).raw)
+            .map_err(|refusal| register.locate(refusal))
     }
 
     // One put, to registers of one page.
-    fn send(&mut self, first: u16, words: &[u16]) -> Result<(), Refusal<Fault>>
-        requires { first < 128 }
-        ensures { (port_reply no_value result, paging_model B.Bus.model self.new) ≡ piece_sent (B.Bus.steps B.Chart.Chart.classed B.Chart.Chart.resets) (paging_model B.Bus.model self.old) first words.now }
+    fn send(&mut self, first: Register, words: &[u16]) -> Result<(), Refusal<Fault>>
+        ensures { (port_reply no_value result, paging_model B.Bus.model self.new) ≡ piece_sent (B.Bus.steps B.Chart.Chart.classed B.Chart.Chart.resets) (paging_model B.Bus.model self.old) first.number words.now }
     {
         self.reach(first)?;
         self.bus
-            .put(place_of(first).raw, words)
-            .map_err(|refusal| at_register(refusal, first))
+            .put(Place::of(first.number).raw, words)
+            .map_err(|refusal| first.locate(refusal))
     }
 
     // The word goes out where it differs.
-    fn rewrite(&mut self, register: u16, patch: Patch, old: u16) -> Result<(), Refusal<Fault>>
-        requires { register < 128 }
-        ensures { (port_reply no_value result, paging_model B.Bus.model self.new) ≡ rewritten (B.Bus.steps B.Chart.Chart.classed B.Chart.Chart.resets) (paging_model B.Bus.model self.old) register patch old }
+    fn rewrite(&mut self, register: Register, patch: Patch, old: u16) -> Result<(), Refusal<Fault>>
+        ensures { (port_reply no_value result, paging_model B.Bus.model self.new) ≡ rewritten (B.Bus.steps B.Chart.Chart.classed B.Chart.Chart.resets) (paging_model B.Bus.model self.old) register.number patch old }
     {
         let new = patch.act(old);
         if new == old {
@@ -117,9 +97,8 @@ impl<B: Bus> Paging<B> {
     }
 
     // Nothing for a patch that is idle, one put for one that is complete, else a get and then a put.
-    fn send_update(&mut self, register: u16, patch: Patch) -> Result<(), Refusal<Fault>>
-        requires { register < 128 }
-        ensures { (port_reply no_value result, paging_model B.Bus.model self.new) ≡ update_sent (B.Bus.steps B.Chart.Chart.classed B.Chart.Chart.resets) (paging_model B.Bus.model self.old) register patch }
+    fn send_update(&mut self, register: Register, patch: Patch) -> Result<(), Refusal<Fault>>
+        ensures { (port_reply no_value result, paging_model B.Bus.model self.new) ≡ update_sent (B.Bus.steps B.Chart.Chart.classed B.Chart.Chart.resets) (paging_model B.Bus.model self.old) register.number patch }
     {
         if patch.is_idle() {
             return Ok(());
@@ -132,18 +111,20 @@ impl<B: Bus> Paging<B> {
     }
 
     // A run of at most 16 words meets at most one multiple of 32, where it is cut.
-    fn send_run(&mut self, first: u16, words: &[u16]) -> Result<(), Refusal<Fault>>
-        requires first { first < 128 }
-        requires last { first + length words.now ≤ 128 }
-        ensures { (port_reply no_value result, paging_model B.Bus.model self.new) ≡ run_sent (B.Bus.steps B.Chart.Chart.classed B.Chart.Chart.resets) (paging_model B.Bus.model self.old) first words.now }
+    fn send_run(&mut self, first: Register, words: &[u16]) -> Result<(), Refusal<Fault>>
+        requires { first.number + length words.now ≤ 128 }
+        ensures { (port_reply no_value result, paging_model B.Bus.model self.new) ≡ run_sent (B.Bus.steps B.Chart.Chart.classed B.Chart.Chart.resets) (paging_model B.Bus.model self.old) first.number words.now }
     {
-        let room = room_of(first);
-        if words.len() <= room {
+        let room = room_of(first.number);
+        if words.len() <= usize::from(room) {
             return self.send(first, words);
         }
-        let (front, back) = words.split_at(room);
+        let (front, back) = words.split_at(usize::from(room));
         self.send(first, front)?;
-        self.send(first + room as u16, back)
+        let next = Register {
+            number: first.number + room,
+        };
+        self.send(next, back)
     }
 }
 
@@ -175,7 +156,7 @@ impl<B: Bus> Port for Paging<B> {
     ghost meaning = { let chart = B.Chart.Chart in
         let rules = B.Chart.Chart.rules in
         let bus = B.Bus in
-        paging_meaning rules (bus.steps chart.classed chart.resets) bus.chip bus.Sound (bus.New chart.resets) (bus.meaning chart.counted chart.classed chart.resets rules) };
+        paging_meaning rules (bus.steps chart.classed chart.resets) bus.chip bus.Sound (bus.New chart.resets) (bus.meaning chart.COUNT chart.classed chart.resets rules) };
 
     fn bus(&self) -> &B {
         &self.bus
@@ -187,24 +168,25 @@ impl<B: Bus> Port for Paging<B> {
 
     fn read(&mut self, register: u16) -> Result<u16, Refusal<Fault>> {
         self.access().check_read(B::Chart::class(register))?;
-        self.fetch(register)
+        self.fetch(Register { number: register })
     }
 
     fn update(&mut self, register: u16, patch: Patch) -> Result<(), Refusal<Fault>> {
         self.access().check_update(B::Chart::class(register))?;
-        self.send_update(register, patch)
+        self.send_update(Register { number: register }, patch)
     }
 
     fn run(&mut self, first: u16, words: &[u16]) -> Result<(), Refusal<Fault>> {
         self.access().check_run::<B::Chart>(first, words.len())?;
-        self.send_run(first, words)
+        self.send_run(Register { number: first }, words)
     }
 
     fn measure(&mut self, register: u16, word: u16) -> Result<(), Refusal<Fault>> {
         check_measure(B::Chart::class(register))?;
+        let register = Register { number: register };
         self.bus
-            .measure(register, word)
-            .map_err(|refusal| at_register(refusal, register))
+            .measure(register.number, word)
+            .map_err(|refusal| register.locate(refusal))
     }
 
     fn down(&mut self) {
