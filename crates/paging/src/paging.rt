@@ -1,7 +1,7 @@
 // Every register by its number, over any bus: a page is selected where it is not believed to be.
 ghost use Rattle.std.specs.Prelude.{◌≡◌, ◌+◌, ◌<◌, ◌≤◌, false, length, Some};
 ghost use Rattle.chart.specs.Replies.{told, failure_values, fault_values, port_reply, word_value, no_value};
-ghost use Rattle.pages.specs.Machine.{PagingModel, PagingSound, PagingNew, paged, located, reached, fetched, piece_sent, rewritten, update_sent, run_sent, paging_steps, paging_shown};
+ghost use Rattle.pages.specs.Machine.{PagingModel, PagingSound, PagingNew, paged, located, reached, fetched, piece_sent, update_sent, run_sent, paging_steps, paging_shown};
 ghost use Rattle.paging.specs.Made.{paging_model};
 ghost use Rattle.pages.proofs.PagingMeaning.{paging_meaning};
 
@@ -85,18 +85,7 @@ impl<B: Bus> Paging<B> {
             .map_err(|refusal| first.locate(refusal))
     }
 
-    // The word goes out where it differs.
-    fn rewrite(&mut self, register: Register, patch: Patch, old: u16) -> Result<(), Refusal<Fault>>
-        ensures { (port_reply no_value result, paging_model B.Bus.model self.new) ≡ rewritten (B.Bus.steps B.Chart.Chart.classed B.Chart.Chart.resets) (paging_model B.Bus.model self.old) register.number patch old }
-    {
-        let new = patch.act(old);
-        if new == old {
-            return Ok(());
-        }
-        self.send(register, &[new])
-    }
-
-    // Nothing for a patch that is idle, one put for one that is complete, else a get and then a put.
+    // Nothing for a patch that is idle, one put for one that is complete, else a get, and then a put where the word differs.
     fn send_update(&mut self, register: Register, patch: Patch) -> Result<(), Refusal<Fault>>
         ensures { (port_reply no_value result, paging_model B.Bus.model self.new) ≡ update_sent (B.Bus.steps B.Chart.Chart.classed B.Chart.Chart.resets) (paging_model B.Bus.model self.old) register.number patch }
     {
@@ -107,7 +96,11 @@ impl<B: Bus> Paging<B> {
             return self.send(register, &[patch.act(0)]);
         }
         let old = self.fetch(register)?;
-        self.rewrite(register, patch, old)
+        let new = patch.act(old);
+        if new == old {
+            return Ok(());
+        }
+        self.send(register, &[new])
     }
 
     // A run of at most 16 words meets at most one multiple of 32, where it is cut.
