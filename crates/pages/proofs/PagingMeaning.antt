@@ -31,8 +31,7 @@ replaced_other : (n w : ℕ) (f : ℕ → ℕ) (i : ℕ) → (i ≡ n → ⊥) �
 replaced_other n w f i away = search rules
 
 measured_words : (on : Bool) (n w : ℕ) (ws : List ℕ) (i : ℕ) → n < length ws → get_or (words_measured on n w ws) i 0 ≡ cond on (replaced n w (λ k. get_or ws k 0)) (λ k. get_or ws k 0) i
-measured_words true n w ws i h = set_replaces ws n w i h
-measured_words false n w ws i h = refl
+measured_words on n w ws i h = search (rules, set_replaces)
 
 measured_other : (on : Bool) (n w : ℕ) (f : ℕ → ℕ) (i : ℕ) → (i ≡ n → ⊥) → cond on (replaced n w f) f i ≡ f i
 measured_other on n w f i away = search (rules, replaced_other)
@@ -198,19 +197,10 @@ module _ {count : ℕ} {class : ℕ → Class} {reset : ℕ → ℕ} (chart : Ch
 
   is_new : (m : P) → PagingNew New m → NewView class reset (view m)
   is_new m (new, page) =
-      let is = bus.new m.bus new in
-      let word_is = λ (i : ℕ). ap (λ (c : Chip). get_or c.words i 0) is in
-      record {
-        words = record { shown = λ i s. word_is i ∙ fresh_setting i s; settings = λ i s. word_is i ∙ fresh_setting i s };
-        live = λ i l. word_is i ∙ fresh_live i l;
-        supply = ap (λ (c : Chip). c.supply) is;
-        failed = ap (λ (c : Chip). c.failed) is;
-      }
+      rw (bus.new m.bus new) (record { words = record { shown = fresh_setting; settings = fresh_setting }; live = fresh_live; supply = refl; failed = refl })
 
   new_sound : (m : P) → PagingNew New m → PagingSound chip Sound m
-  new_sound m (new, page) =
-      let zero_page = ap (λ (c : Chip). selector c.words) (bus.new m.bus new) ∙ bus.first_page in
-      (bus.new_sound m.bus new, subst (λ q. Believed q (selector (chip m.bus).words)) (sym page) (sym zero_page))
+  new_sound m (new, page) = (bus.new_sound m.bus new, rw (page, bus.new m.bus new) (sym bus.first_page))
 
   module _ (m : P) (n w : ℕ) (sound : PagingSound chip Sound m) (goes : measure_check (class n) ≡ None) where
     after : M
@@ -248,34 +238,16 @@ module _ {count : ℕ} {class : ℕ → Class} {reset : ℕ → ℕ} (chart : Ch
         subst (Believed m.page) (sym (stands 128 (λ e. omega arith))) sound.1
 
   is_down : (m : P) → PagingSound chip Sound m → WentDown false class reset (view m) (view (steps.down m))
-  is_down m sound =
-      let is = bus.down_done m.bus sound.0 in
-      let word_is = λ (i : ℕ). ap (λ (c : Chip). get_or c.words i 0) is in
-      record {
-        shown = λ i s. word_is i ∙ fresh_setting i s;
-        settings = λ i s. word_is i ∙ fresh_setting i s;
-        live = λ i l. word_is i ∙ fresh_live i l;
-        supply = ap (λ (c : Chip). c.supply) is;
-        failed = ap (λ (c : Chip). c.failed) is;
-      }
+  is_down m sound = rw (bus.down_done m.bus sound.0) (record { shown = fresh_setting; settings = fresh_setting; live = fresh_live; supply = refl; failed = refl })
 
   down_sound : (m : P) → PagingSound chip Sound m → PagingSound chip Sound (steps.down m)
-  down_sound m sound = (bus.down_sound m.bus sound.0, sym (ap (λ (c : Chip). selector c.words) (bus.down_done m.bus sound.0) ∙ bus.first_page))
+  down_sound m sound = (bus.down_sound m.bus sound.0, rw (bus.down_done m.bus sound.0) (sym bus.first_page))
 
   is_up : (m : P) → CameUp class (view m) (view (steps.up m))
-  is_up m =
-      let is = bus.up_done m.bus in
-      let word_is = λ (i : ℕ). ap (λ (c : Chip). get_or c.words i 0) is in
-      record {
-        shown = λ i s. word_is i;
-        settings = λ i s. word_is i;
-        live = λ i l. word_is i;
-        supply = ap (λ (c : Chip). c.supply) is;
-        failed = ap (λ (c : Chip). c.failed) is;
-      }
+  is_up m = rw (bus.up_done m.bus) (record { shown = λ i s. refl; settings = λ i s. refl; live = λ i l. refl; supply = refl; failed = refl })
 
   up_sound : (m : P) → PagingSound chip Sound m → PagingSound chip Sound (steps.up m)
-  up_sound m sound = (bus.up_sound m.bus sound.0, subst (λ (c : Chip). Believed m.page (selector c.words)) (sym (bus.up_done m.bus)) sound.1)
+  up_sound m sound = (bus.up_sound m.bus sound.0, rw (bus.up_done m.bus) sound.1)
 
   -- the fetch of a read that goes on
   read_fetches : (m : P) (n : ℕ) → PagingSound chip Sound m → read_check false (class n) (chip m.bus).supply ≡ None → Fetches step chip Sound New bus m n (fetched step m n)

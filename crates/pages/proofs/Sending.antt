@@ -1,5 +1,5 @@
 -- What paging's transfers leave, from the meaning of the bus alone. Assumes nothing.
-use Rattle.std.proofs.Common.{◌≡◌, ℕ, ◌+◌, ◌-◌, ◌%◌, ◌<◌, ◌≤◌, true, false, cond, eqb, ltb, leb, ◌⊎◌, List, [], ◌∷◌, ◌++◌, length, get_or, take, drop, Some, None, Option, sym, refl, ap, ◌∙◌, subst, inl, inr, ⊎_elim, add-zero, add_assoc, arith}
+use Rattle.std.proofs.Common.{◌≡◌, ℕ, ◌+◌, ◌-◌, ◌%◌, ◌<◌, ◌≤◌, true, false, cond, eqb, ltb, leb, ◌⊎◌, List, [], ◌∷◌, ◌++◌, length, get_or, set, take, drop, Some, None, Option, sym, refl, ap, ◌∙◌, subst, inl, inr, ⊎_elim, add-zero, add_assoc, arith, rules}
 use lib.Seq.{take-append-add}
 use Rattle.std.proofs.lemmas.List.{get_or-set_same, get_or-set_other, length-take-le, length-append, length-drop, take-append-le, take-append-drop}
 use Rattle.std.proofs.lemmas.Bool.{cases_Bool, or_cases, ltb-true, eqb-true, leb-true, leb-false, cond-true, cond-false}
@@ -29,8 +29,8 @@ aimed_below s raw first n (some, inr (low, fits, page, e)) = fits
 
 -- a page that is believed to be this one
 believed_is : (page : Option ℕ) (p s : ℕ) → believes page p ≡ true → Believed page s → s ≡ p
-believed_is None p s e b = let z : ◌≡◌ {A = ℕ} 0 1 = cc in absurd (omega arith)
-believed_is (Some q) p s e b = sym b ∙ eqb-true q p e
+believed_is None p s e b = search rules
+believed_is (Some q) p s e b = search rules
 
 pub onward_goes : {M : Type 0} (p : Reply × M) (vs : List ℕ) (next : M → Reply × M) → p.0 ≡ accepted vs → onward p next ≡ next p.1
 onward_goes p vs next e = cond-true _ (next p.1) p (ap (λ (r : Reply). eqb r.number 0) e)
@@ -92,32 +92,20 @@ module _ {class : ℕ → Class} {reset : ℕ → ℕ} {M : Type 0} (step : Step
       → Put (chip m.bus) 0 (page_of n ∷ []) p.0 (chip p.1) → Reaches m n (selected n p)
   selects m n p sound low after (inl (r, is)) =
       let ws = (chip m.bus).words in
-      let page : selector (chip p.1).words ≡ page_of n =
-      ap (λ (c : Chip). selector c.words) is ∙ get_or-set_same ws 128 (page_of n % 4) 0 (omega (arith, (bus.words m.bus sound.0).size)) ∙ (omega arith) in
-      inl (
-        ap (located n) r,
+      let page : get_or (set ws 128 (page_of n % 4)) 128 0 ≡ page_of n = get_or-set_same ws 128 (page_of n % 4) 0 (omega (arith, (bus.words m.bus sound.0).size)) ∙ (omega arith) in
+      rw (r, is) (inl (
+        refl,
         record {
-          sound = (after, subst (λ (r : Reply). Believed (cond (eqb r.number 0) (Some (page_of n)) None) (selector (chip p.1).words)) (sym r) (sym page));
-          words = λ i h. ap (λ (c : Chip). get_or c.words i 0) is ∙ get_or-set_other ws 128 i (page_of n % 4) 0 (λ e. omega arith);
-          supply = ap (λ (c : Chip). c.supply) is;
-          failed = ap (λ (c : Chip). c.failed) is ∙ sym (add-zero _);
+          sound = (after, rw is (sym page));
+          words = λ i h. rw is (get_or-set_other ws 128 i (page_of n % 4) 0 (λ e. omega arith));
+          supply = rw is refl;
+          failed = rw is (sym (add-zero _));
         },
         inr page,
-      )
+      ))
   selects m n p sound low after (inr (cause, k, few, r, is)) =
       let none : k ≡ 0 = omega arith in
-      let same = is ∙ ap (λ j. record { words = all_stored (chip m.bus).words (rising 0 (take j (page_of n ∷ []))); supply = (chip m.bus).supply; failed = (chip m.bus).failed + 1 }) none in
-      let told = r ∙ ap (λ j. refused 6 (cause ∷ j ∷ [])) none in
-      inr (
-        cause,
-        ap (located n) told,
-        record {
-          sound = (after, subst (λ (r : Reply). Believed (cond (eqb r.number 0) (Some (page_of n)) None) (selector (chip p.1).words)) (sym r) tt);
-          words = λ i h. ap (λ (c : Chip). get_or c.words i 0) same;
-          supply = ap (λ (c : Chip). c.supply) same;
-          failed = ap (λ (c : Chip). c.failed) same;
-        },
-      )
+      rw (r, none) (inr (cause, refl, record { sound = (after, tt); words = λ i h. rw (is, none) refl; supply = rw is refl; failed = rw is refl }))
 
   pub reaches : (m : PagingModel M) (n : ℕ) → PagingSound chip Sound m → awake_at m → n < 128 → Reaches m n (reached step m n)
   reaches m n sound on low = ⊎_elim stays goes (cases_Bool (ready m.page n))
@@ -138,28 +126,12 @@ module _ {class : ℕ → Class} {reset : ℕ → ℕ} {M : Type 0} (step : Step
   gets : (k : PagingModel M) (n : ℕ) (p : Reply × M) → PagingSound chip Sound k → Sound p.1 → Aimed (selector (chip k.bus).words) (raw_of n) n 1
       → Got (chip k.bus) (raw_of n) p.0 (chip p.1) → Fetches k n (got step k n p)
   gets k n p sound after at (inl (r, is)) =
-      let ws = (chip k.bus).words in
-      let answer = r ∙ ap (λ w. accepted (w ∷ [])) (loaded_at ws (raw_of n) n 1 (omega arith) at) in
-      inl (
-        cond-true _ p.0 (located n p.0) (ap (λ (r : Reply). eqb r.number 0) r) ∙ answer,
-        record {
-          sound = (after, subst (λ (c : Chip). Believed k.page (selector c.words)) (sym is) sound.1);
-          words = λ i h. ap (λ (c : Chip). get_or c.words i 0) is;
-          supply = ap (λ (c : Chip). c.supply) is;
-          failed = ap (λ (c : Chip). c.failed) is ∙ sym (add-zero _);
-        },
-      )
+      rw r (inl (
+        ap (λ w. accepted (w ∷ [])) (loaded_at (chip k.bus).words (raw_of n) n 1 (omega arith) at),
+        record { sound = (after, rw is sound.1); words = λ i h. rw is refl; supply = rw is refl; failed = rw is (sym (add-zero _)) },
+      ))
   gets k n p sound after at (inr (cause, r, is)) =
-      inr (
-        cause,
-        cond-false _ p.0 (located n p.0) (ap (λ (r : Reply). eqb r.number 0) r) ∙ ap (located n) r,
-        record {
-          sound = (after, subst (λ (c : Chip). Believed k.page (selector c.words)) (sym is) sound.1);
-          words = λ i h. ap (λ (c : Chip). get_or c.words i 0) is;
-          supply = ap (λ (c : Chip). c.supply) is;
-          failed = ap (λ (c : Chip). c.failed) is;
-        },
-      )
+      rw r (inr (cause, refl, record { sound = (after, rw is sound.1); words = λ i h. rw is refl; supply = rw is refl; failed = rw is refl }))
 
   -- a chip after a burst that was aimed at registers
   burst_left : (k : PagingModel M) (b : M) (first n : ℕ) (vs : List ℕ) → PagingSound chip Sound k → Sound b → first + length vs ≤ 128
