@@ -1,8 +1,8 @@
 -- Paging over a bus that has the meaning of a bus has the meaning of a port. Assumes nothing.
-use Rattle.std.proofs.Common.{◌≡◌, ℕ, ◌+◌, ◌-◌, ◌^◌, ◌<◌, ◌≤◌, Bool, true, false, cond, eqb, ◌⊎◌, List, [], ◌∷◌, length, get_or, take, None, Option, sym, refl, ap, ◌∙◌, subst, inl, inr, ⊎_elim, add-zero, arith, rules}
+use Rattle.std.proofs.Common.{◌≡◌, ℕ, ◌+◌, ◌-◌, ◌^◌, ◌<◌, ◌≤◌, Bool, true, false, cond, eqb, ◌⊎◌, List, [], ◌∷◌, length, get_or, take, None, sym, refl, ap, ◌∙◌, subst, inl, inr, ⊎_elim, add-zero, arith, rules}
 use Rattle.std.proofs.lemmas.List.{length-take-le}
 use Rattle.std.proofs.lemmas.Bool.Decides.{nat_tests}
-use Rattle.std.proofs.lemmas.Bool.{false≢true, cases_Bool, cases_eq, cases_lt, cond-true, cond-false, eqb-true, eq-eqb, ne_eqb}
+use Rattle.std.proofs.lemmas.Bool.{false≢true, cases_Bool, cases_lt, eqb-true}
 use Rattle.chart.specs.Patch.{acted, idle, complete}
 use Rattle.chart.specs.Replies.{Reply, accepted, refused}
 use Rattle.chart.specs.Rules.{ChartRules}
@@ -13,7 +13,7 @@ use Rattle.chart.proofs.Masked.{acted_fits, idles, completes}
 use Rattle.chip.specs.Words.{selector, fresh, Fit}
 use Rattle.chip.proofs.Soundness.{one_fits, fresh_at}
 use Rattle.bus.specs.Chips.{Chip, words_measured}
-use Rattle.bus.specs.Checks.{measure_check, unless}
+use Rattle.bus.specs.Checks.{measure_check}
 use Rattle.bus.specs.Meaning.{Steps, BusMeaning}
 use Rattle.bus.proofs.Settled.{refused_by, either_way}
 use Rattle.port.specs.Checks.{read_check, update_check, run_check}
@@ -22,7 +22,7 @@ use Rattle.port.specs.Meaning.{PortSteps, PortMeaning, PatchFits, Stood, Failed,
 use Rattle.port.proofs.Settled.{read_settled, update_settled, measure_settled, run_settled, in_chart, run_in_chart}
 use Rattle.pages.specs.Machine.{PagingModel, PagingSound, PagingNew, Believed, paged, located, fetched, piece_sent, rewritten, update_sent, run_sent, paging_steps, paging_shown}
 use Rattle.pages.proofs.Storing.{set_replaces, ran_outside, ran_part}
-use Rattle.pages.proofs.Sending.{Left, Broken, Fetches, StoresOver, Stores, word, awake_at, onward_goes, onward_stops, unmoved, stores_on, fetches, piece_stores, run_stores}
+use Rattle.pages.proofs.Sending.{Left, Broken, Fetches, StoresOver, Stores, word, awake_at, unmoved, stores_on, fetches, piece_stores, run_stores}
 
 replaced_same : (n w : ℕ) (f : ℕ → ℕ) (i : ℕ) → w ≡ f n → replaced n w f i ≡ f i
 replaced_same n w f i e = grind (arith, nat_tests)
@@ -121,16 +121,12 @@ module _ {count : ℕ} {class : ℕ → Class} {reset : ℕ → ℕ} (chart : Ch
       nothing e = rw e (unchanged m m n (acted p (W m n)) here (idles p e (W m n) (word_fits m sound n)))
 
       whole : idle p ≡ false → complete p ≡ true → One m n (acted p (W m n)) (update_sent step m n p)
-      whole e f = rw (e, f) (subst (λ w. One m n w (piece_sent step m n (acted p 0 ∷ []))) (sym (completes p f (W m n))) (writes m m n (acted p 0) here on some below (acted_fits p 0 mask)))
-
-      next : P → Reply × P
-      next k = rewritten step k n p (get_or first.0.values 0 0)
+      whole e f = rw (e, f, completes p f (W m n)) (writes m m n (acted p 0) here on some below (acted_fits p 0 mask))
 
       masked : idle p ≡ false → complete p ≡ false → One m n (acted p (W m n)) (update_sent step m n p)
       masked e f = rw (e, f) (⊎_elim
-          (λ (d : (first.0 ≡ accepted (W m n ∷ [])) × L m first.1 (W m) 0). subst (One m n (acted p (W m n))) (sym (onward_goes first _ next d.0))
-          (subst (λ w. One m n (acted p (W m n)) (rewritten step first.1 n p w)) (sym (ap (λ (r : Reply). get_or r.values 0 0) d.0)) (rewrites m first.1 n p d.1 on some below mask)))
-          (λ (b : Fault m first (n + 0) (W m)). subst (One m n (acted p (W m n))) (sym (onward_stops first _ next b.1)) (inr b))
+          (λ (d : (first.0 ≡ accepted (W m n ∷ [])) × L m first.1 (W m) 0). rw d.0 (rewrites m first.1 n p d.1 on some below mask))
+          (λ (b : Fault m first (n + 0) (W m)). rw b.1 (inr b))
           (fetches step chip Sound New bus m n sound on some below))
 
   one_updated : (m : P) (n : ℕ) (p : Patch) (q : Reply × P) → class n ≡ Setting → One m n (acted p (W m n)) q → Updated class (view m) n p q.0 (view q.1)
@@ -139,9 +135,9 @@ module _ {count : ℕ} {class : ℕ → Class} {reset : ℕ → ℕ} (chart : Ch
       inl (r, (stood m q.1 _ 0 left apart, shows m q.1 _ 0 left))
   one_updated m n p q s (inr b) = inr (failed m q n (search rules) b)
 
-  one_sound : (m : P) (n w : ℕ) (q : Reply × P) → One m n w q → PagingSound chip Sound q.1
-  one_sound m n w q (inl (r, left)) = left.sound
-  one_sound m n w q (inr (cause, r, left)) = left.sound
+  -- all is as it is to be, whether a call was accepted or not
+  sound_after : {A : Type 0} (m : P) (q : Reply × P) (f g : ℕ → ℕ) (n : ℕ) → (A × L m q.1 f 0) ⊎ Fault m q n g → PagingSound chip Sound q.1
+  sound_after m q f g n o = ⊎_elim (λ done. done.1.sound) (λ fault. fault.2.sound) o
 
   setting_read : (m : P) (n : ℕ) (q : Reply × P) → class n ≡ Setting → Fetches step chip Sound New bus m n q → SettingRead class (view m) n q.0 (view q.1)
   setting_read m n q s (inl (r, left)) = inl (r, (stood m q.1 (W m) 0 left (λ i l. refl), shows m q.1 (W m) 0 left), shows m q.1 (W m) 0 left)
@@ -150,10 +146,6 @@ module _ {count : ℕ} {class : ℕ → Class} {reset : ℕ → ℕ} (chart : Ch
   live_read : (m : P) (n : ℕ) (q : Reply × P) → class n ≡ Live → Fetches step chip Sound New bus m n q → LiveRead class (view m) n q.0 (view q.1)
   live_read m n q l (inl (r, left)) = inl (r, (stood m q.1 (W m) 0 left (λ i l. refl), shows m q.1 (W m) 0 left), λ i s. refl)
   live_read m n q l (inr b) = inr (failed m q n (search rules) b)
-
-  fetch_sound : (m : P) (n : ℕ) (q : Reply × P) → Fetches step chip Sound New bus m n q → PagingSound chip Sound q.1
-  fetch_sound m n q (inl (r, left)) = left.sound
-  fetch_sound m n q (inr (cause, r, left)) = left.sound
 
   -- what a part of a run leaves: no live register lies in it
   ran_live : (first n : ℕ) (vs : List ℕ) (f : ℕ → ℕ) → length vs ≤ n → ((i : ℕ) → i < n → class (first + i) ≡ Setting) → Agree class Live (ran first vs f) f
@@ -213,9 +205,7 @@ module _ {count : ℕ} {class : ℕ → Class} {reset : ℕ → ℕ} (chart : Ch
     chip_is = (bus.measure_done m.bus n w goes).1
 
     word_is : (i : ℕ) → get_or (chip (step.measure m.bus n w).1).words i 0 ≡ cond (chip m.bus).supply (replaced n w (W m)) (W m) i
-    word_is i =
-        let below = live_low n is_live in
-        ap (λ (c : Chip). get_or c.words i 0) chip_is ∙ measured_words (chip m.bus).supply n w (chip m.bus).words i (omega (arith, (bus.words m.bus sound.0).size))
+    word_is i = rw chip_is (measured_words (chip m.bus).supply n w (chip m.bus).words i (omega (arith, live_low n is_live, (bus.words m.bus sound.0).size)))
 
     stands : (i : ℕ) → (i ≡ n → ⊥) → get_or (chip (step.measure m.bus n w).1).words i 0 ≡ W m i
     stands i away = word_is i ∙ measured_other (chip m.bus).supply n w (W m) i away
@@ -228,14 +218,12 @@ module _ {count : ℕ} {class : ℕ → Class} {reset : ℕ → ℕ} (chart : Ch
       shown = setting_stands;
       settings = setting_stands;
       live = λ i l. word_is i;
-      supply = ap (λ (c : Chip). c.supply) chip_is;
-      failed = ap (λ (c : Chip). c.failed) chip_is;
+      supply = rw chip_is refl;
+      failed = rw chip_is refl;
     }
 
     pub measured_believed : Believed m.page (selector (chip (step.measure m.bus n w).1).words)
-    measured_believed =
-        let below = live_low n is_live in
-        subst (Believed m.page) (sym (stands 128 (λ e. omega arith))) sound.1
+    measured_believed = rw (stands 128 (λ e. omega (arith, live_low n is_live))) sound.1
 
   is_down : (m : P) → PagingSound chip Sound m → WentDown false class reset (view m) (view (steps.down m))
   is_down m sound = rw (bus.down_done m.bus sound.0) (record { shown = fresh_setting; settings = fresh_setting; live = fresh_live; supply = refl; failed = refl })
@@ -281,12 +269,12 @@ module _ {count : ℕ} {class : ℕ → Class} {reset : ℕ → ℕ} (chart : Ch
         let goes : read_check false (class n) (chip m.bus).supply ≡ None = rw l e in
         rw goes (live_read m n (fetched step m n) l (read_fetches m n sound goes));
     kept_read = λ m n sound keeps s. absurd (false≢true keeps);
-    read_sound = λ m n sound. either_way (PagingSound chip Sound) _ m (fetched step m n) sound (λ e. fetch_sound m n (fetched step m n) (read_fetches m n sound e));
+    read_sound = λ m n sound. either_way (PagingSound chip Sound) _ m (fetched step m n) sound (λ e. sound_after m (fetched step m n) _ _ _ (read_fetches m n sound e));
     update_refused = λ m n p r e. refused_by _ r m _ e;
     updated = λ m n p sound fits e.
         rw e (one_updated m n p (update_sent step m n p) (update_settled false (class n) (chip m.bus).supply e).0 (update_one m n p sound fits e));
     kept_update = λ m n p sound keeps off s. absurd (false≢true keeps);
-    update_sound = λ m n p sound fits. either_way (PagingSound chip Sound) _ m (update_sent step m n p) sound (λ e. one_sound m n (acted p (W m n)) (update_sent step m n p) (update_one m n p sound fits e));
+    update_sound = λ m n p sound fits. either_way (PagingSound chip Sound) _ m (update_sent step m n p) sound (λ e. sound_after m (update_sent step m n p) _ _ _ (update_one m n p sound fits e));
     run_refused = λ m first ws r e. refused_by _ r m _ e;
     ran = λ m first ws sound fit e.
         rw e (run_ran m first ws (run_sent step m first ws) (run_settled false class first (length ws) (chip m.bus).supply e).settings (run_all m first ws sound fit e));

@@ -1,7 +1,8 @@
 -- What a burst to registers of one page makes of a chip's words. Assumes nothing.
 use Rattle.std.proofs.Common.{◌≡◌, ℕ, zero, suc, ◌+◌, ◌*◌, ◌%◌, ◌<◌, ◌≤◌, cond, eqb, ◌⊎◌, List, [], ◌∷◌, ◌++◌, length, get_or, take, set, Some, sym, refl, ap, ◌∙◌, subst, inl, inr, ⊎_elim, add-zero, arith}
 use Rattle.std.proofs.lemmas.List.{length-set, get_or-set_same, get_or-set_other}
-use Rattle.std.proofs.lemmas.Bool.{cases_eq, cases_lt, cond-true, cond-false, eq-eqb, ne_eqb, lt-ltb, le-ltb}
+use Rattle.std.proofs.lemmas.Bool.Decides.{nat_tests}
+use Rattle.std.proofs.lemmas.Bool.{cases_eq, cond-false, ne_eqb}
 use Rattle.chip.specs.Words.{selector, placed, loaded, stored_at, rising, all_stored}
 use Rattle.port.specs.Views.{replaced, ran}
 use Rattle.pages.specs.Places.{page_of, raw_of}
@@ -11,30 +12,17 @@ abbrev pub Aimed : ℕ → ℕ → ℕ → ℕ → Type 0
 Aimed s raw first n = (1 ≤ raw) × (((raw ≡ first) × (raw + n ≤ 32)) ⊎ ((32 ≤ raw) × (raw + n ≤ 64) × (s < 3) × (first ≡ raw + 32 * s)))
 
 pub aimed_less : (s raw first n k : ℕ) → k ≤ n → Aimed s raw first n → Aimed s raw first k
-aimed_less s raw first n k h (some, inl (e, fits)) = (some, inl (e, omega arith))
-aimed_less s raw first n k h (some, inr (low, fits, page, e)) = (some, inr (low, omega arith, page, e))
+aimed_less s raw first n k h at = grind arith
 
 aimed_next : (s raw first n : ℕ) → Aimed s raw first (suc n) → Aimed s (raw + 1) (first + 1) n
-aimed_next s raw first n (some, inl (e, fits)) = (omega arith, inl (omega arith, omega arith))
-aimed_next s raw first n (some, inr (low, fits, page, e)) = (omega arith, inr (omega arith, omega arith, page, omega arith))
+aimed_next s raw first n at = grind arith
 
 aimed_at : (s raw first n : ℕ) → 0 < n → Aimed s raw first n → placed s raw ≡ Some first
-aimed_at s raw first n h (some, inl (e, fits)) =
-    rw (ne_eqb raw 0 (λ z. omega arith), lt-ltb raw 32 (omega arith)) (ap Some e)
-aimed_at s raw first n h (some, inr (low, fits, page, e)) =
-    rw (ne_eqb raw 0 (λ z. omega arith), le-ltb raw 32 low, lt-ltb raw 64 (omega arith), lt-ltb s 3 page) (ap Some (sym e))
+aimed_at s raw first n h at = grind (arith, nat_tests)
 
 -- a register that its page, or none, is selected for
 pub aimed : (s n k : ℕ) → (n < 32) ⊎ (s ≡ page_of n) → 1 ≤ n → n % 32 + k ≤ 32 → n + k ≤ 128 → 0 < k → Aimed s (raw_of n) n k
-aimed s n k facing some block last h = ⊎_elim fixed on_page (cases_lt n 32)
-  where
-    fixed : n < 32 → Aimed s (raw_of n) n k
-    fixed low = rw (lt-ltb n 32 low) (some, inl (refl, omega arith))
-
-    on_page : 32 ≤ n → Aimed s (raw_of n) n k
-    on_page high =
-        let page : s ≡ page_of n = ⊎_elim (λ low. absurd (omega arith)) (λ e. e) facing in
-        rw (le-ltb n 32 high) (omega arith, inr (omega arith, omega arith, omega arith, omega arith))
+aimed s n k facing some block last h = grind (arith, nat_tests)
 
 pub loaded_at : (ws : List ℕ) (raw n k : ℕ) → 0 < k → Aimed (selector ws) raw n k → loaded ws raw ≡ get_or ws n 0
 loaded_at ws raw n k h at = rw (aimed_at (selector ws) raw n k h at)
@@ -45,13 +33,7 @@ stored_set ws raw n k w h at =
     rw (aimed_at (selector ws) raw n k h at, own)
 
 pub set_replaces : (ws : List ℕ) (n w i : ℕ) → n < length ws → get_or (set ws n w) i 0 ≡ replaced n w (λ k. get_or ws k 0) i
-set_replaces ws n w i h = ⊎_elim same other (cases_eq i n)
-  where
-    same : i ≡ n → get_or (set ws n w) i 0 ≡ replaced n w (λ k. get_or ws k 0) i
-    same e = ap (λ k. get_or (set ws n w) k 0) e ∙ get_or-set_same ws n w 0 h ∙ sym (cond-true _ w (get_or ws i 0) (eq-eqb i n e))
-
-    other : (i ≡ n → ⊥) → get_or (set ws n w) i 0 ≡ replaced n w (λ k. get_or ws k 0) i
-    other ne = get_or-set_other ws n i w 0 ne ∙ sym (cond-false _ w (get_or ws i 0) (ne_eqb i n ne))
+set_replaces ws n w i h = grind (arith, nat_tests, get_or-set_same, get_or-set_other)
 
 -- a word after a run is known by that word before it
 pub ran_same : (first : ℕ) (vs : List ℕ) (f g : ℕ → ℕ) (i : ℕ) → f i ≡ g i → ran first vs f i ≡ ran first vs g i
