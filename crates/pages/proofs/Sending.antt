@@ -199,22 +199,21 @@ module _ {class : ℕ → Class} {reset : ℕ → ℕ} {M : Type 0} (step : Step
   -- the first words of a longer list, cut short by a fault
   stores_front : (m : PagingModel M) (first : ℕ) (xs ys : List ℕ) (q : Reply × PagingModel M) (j : ℕ) → j < length xs
       → Broken m q (first + j) (ran first (take j xs) (word m)) → Stores m first (xs ++ ys) q
-  stores_front m first xs ys q j few b =
-      let more : j < length (xs ++ ys) = omega (arith, length-append xs ys) in
-      inr (j, more, subst (λ zs. Broken m q (first + j) (ran first zs (word m))) (sym (take-append-le j xs ys (omega arith))) b)
+  stores_front m first xs ys q j few b = inr (j, omega (arith, length-append xs ys), rw (take-append-le j xs ys (omega arith)) b)
+
+  -- words stored after others, as one list
+  as_whole : (m k : PagingModel M) (first : ℕ) (xs ys : List ℕ) (n : ℕ) → Left m k (ran (first + length xs) ys (ran first xs (word m))) n → Left m k (ran first (xs ++ ys) (word m)) n
+  as_whole m k first xs ys n l = record { sound = l.sound; words = λ i h. l.words i h ∙ ran-append first xs ys (word m) i; supply = l.supply; failed = l.failed }
 
   -- the rest of the list after them
   stores_back : (m : PagingModel M) (first : ℕ) (xs ys : List ℕ) (q : Reply × PagingModel M)
       → StoresOver (ran first xs (word m)) m (first + length xs) ys q → Stores m first (xs ++ ys) q
-  stores_back m first xs ys q (inl (r, left)) = inl (r, as_whole ys 0 left)
-    where
-      as_whole : (zs : List ℕ) (n : ℕ) → Left m q.1 (ran (first + length xs) zs (ran first xs (word m))) n → Left m q.1 (ran first (xs ++ zs) (word m)) n
-      as_whole zs n l = record { sound = l.sound; words = λ i h. l.words i h ∙ ran-append first xs zs (word m) i; supply = l.supply; failed = l.failed }
-  stores_back m first xs ys q (inr (j, few, (cause, r, left))) =
-      let more : length xs + j < length (xs ++ ys) = omega (arith, length-append xs ys) in
-      let whole : Left m q.1 (ran first (xs ++ take j ys) (word m)) 1 =
-      record { sound = left.sound; words = λ i h. left.words i h ∙ ran-append first xs (take j ys) (word m) i; supply = left.supply; failed = left.failed } in
-      inr (length xs + j, more, (cause, r ∙ ap (λ n. refused 6 (cause ∷ n ∷ 0 ∷ [])) (add_assoc first (length xs) j), subst (λ zs. Left m q.1 (ran first zs (word m)) 1) (sym (take-append-add xs ys j)) whole))
+  stores_back m first xs ys q (inl (r, left)) = inl (r, as_whole m q.1 first xs ys 0 left)
+  stores_back m first xs ys q (inr (j, few, (cause, r, left))) = inr (
+    length xs + j,
+    omega (arith, length-append xs ys),
+    (cause, r ∙ ap (λ n. refused 6 (cause ∷ n ∷ 0 ∷ [])) (add_assoc first (length xs) j), rw (take-append-add xs ys j) (as_whole m q.1 first xs (take j ys) 1 left)),
+  )
 
   two_pieces : (m : PagingModel M) (first : ℕ) (xs ys : List ℕ) → PagingSound chip Sound m → awake_at m → Fit xs → Fit ys → 0 < length xs → 0 < length ys
       → length xs + length ys ≤ 16 → 1 ≤ first → first % 32 + length xs ≡ 32 → first + length xs + length ys ≤ 128

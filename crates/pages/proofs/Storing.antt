@@ -1,5 +1,5 @@
 -- What a burst to registers of one page makes of a chip's words. Assumes nothing.
-use Rattle.std.proofs.Common.{◌≡◌, ℕ, zero, suc, ◌+◌, ◌*◌, ◌%◌, ◌<◌, ◌≤◌, cond, eqb, ◌⊎◌, List, [], ◌∷◌, ◌++◌, length, get_or, take, set, Some, sym, refl, ap, ◌∙◌, subst, inl, inr, ⊎_elim, add-zero, arith}
+use Rattle.std.proofs.Common.{◌≡◌, ℕ, zero, suc, ◌+◌, ◌*◌, ◌%◌, ◌<◌, ◌≤◌, cond, eqb, ◌⊎◌, List, [], ◌∷◌, ◌++◌, length, get_or, take, set, Some, sym, refl, ap, ◌∙◌, inl, inr, ⊎_elim, add-zero, arith}
 use Rattle.std.proofs.lemmas.List.{length-set, get_or-set_same, get_or-set_other}
 use Rattle.std.proofs.lemmas.Bool.Decides.{nat_tests}
 use Rattle.std.proofs.lemmas.Bool.{cases_eq, cond-false, ne_eqb}
@@ -28,9 +28,7 @@ pub loaded_at : (ws : List ℕ) (raw n k : ℕ) → 0 < k → Aimed (selector ws
 loaded_at ws raw n k h at = rw (aimed_at (selector ws) raw n k h at)
 
 stored_set : (ws : List ℕ) (raw n k w : ℕ) → 0 < k → Aimed (selector ws) raw n k → stored_at ws raw w ≡ set ws n w
-stored_set ws raw n k w h at =
-    let own = ne_eqb raw 0 (λ z. omega (arith, at.0)) in
-    rw (aimed_at (selector ws) raw n k h at, own)
+stored_set ws raw n k w h at = rw (aimed_at (selector ws) raw n k h at, ne_eqb raw 0 (λ z. omega (arith, at.0)))
 
 pub set_replaces : (ws : List ℕ) (n w i : ℕ) → n < length ws → get_or (set ws n w) i 0 ≡ replaced n w (λ k. get_or ws k 0) i
 set_replaces ws n w i h = grind (arith, nat_tests, get_or-set_same, get_or-set_other)
@@ -43,31 +41,25 @@ ran_same first (v ∷ vs) f g i e = ran_same (first + 1) vs (replaced first v f)
 -- what lies before or after a run stands
 pub ran_outside : (first : ℕ) (vs : List ℕ) (f : ℕ → ℕ) (i : ℕ) → (i < first) ⊎ (first + length vs ≤ i) → ran first vs f i ≡ f i
 ran_outside first [] f i out = refl
-ran_outside first (v ∷ vs) f i out =
-    let away : (i < first + 1) ⊎ (first + 1 + length vs ≤ i) = ⊎_elim (λ h. inl (omega arith)) (λ h. inr (omega arith)) out in
-    let ne : i ≡ first → ⊥ = λ e. ⊎_elim (λ (h : i < first). omega arith) (λ (h : first + length (v ∷ vs) ≤ i). omega arith) out in
-    ran_outside (first + 1) vs (replaced first v f) i away ∙ cond-false _ v (f i) (ne_eqb i first ne)
+ran_outside first (v ∷ vs) f i out = ran_outside (first + 1) vs (replaced first v f) i (grind arith) ∙ grind (arith, nat_tests)
 
 pub ran-append : (first : ℕ) (xs ys : List ℕ) (f : ℕ → ℕ) (i : ℕ) → ran (first + length xs) ys (ran first xs f) i ≡ ran first (xs ++ ys) f i
 ran-append first [] ys f i = ap (λ k. ran k ys f i) (add-zero first)
 ran-append first (x ∷ xs) ys f i =
     let moved : first + length (x ∷ xs) ≡ first + 1 + length xs = omega arith in
-    ap (λ k. ran k ys (ran (first + 1) xs (replaced first x f)) i) moved ∙ ran-append (first + 1) xs ys (replaced first x f) i
+    rw moved (ran-append (first + 1) xs ys (replaced first x f) i)
 
 -- part of a run leaves each word old or as the whole run would
 pub ran_part : (first : ℕ) (vs : List ℕ) (k : ℕ) (f : ℕ → ℕ) (i : ℕ) → (ran first (take k vs) f i ≡ f i) ⊎ (ran first (take k vs) f i ≡ ran first vs f i)
 ran_part first vs zero f i = inl refl
 ran_part first [] (suc k) f i = inl refl
-ran_part first (v ∷ vs) (suc k) f i = ⊎_elim old (λ e. inr e) (ran_part (first + 1) vs k (replaced first v f) i)
-  where
-    part : ℕ
-    part = ran first (take (suc k) (v ∷ vs)) f i
-
-    old : part ≡ replaced first v f i → (part ≡ f i) ⊎ (part ≡ ran first (v ∷ vs) f i)
-    old e = ⊎_elim
-        (λ here. inr (e ∙ sym (ran_outside (first + 1) vs (replaced first v f) i (inl (omega arith)))))
-        (λ away. inl (e ∙ cond-false _ v (f i) (ne_eqb i first away)))
-        (cases_eq i first)
+ran_part first (v ∷ vs) (suc k) f i = ⊎_elim
+    (λ old. ⊎_elim
+    (λ here. inr (old ∙ sym (ran_outside (first + 1) vs (replaced first v f) i (inl (omega arith)))))
+    (λ away. inl (old ∙ cond-false _ v (f i) (ne_eqb i first away)))
+    (cases_eq i first))
+    (λ e. inr e)
+    (ran_part (first + 1) vs k (replaced first v f) i)
 
 -- a burst that is aimed at registers replaces their words, and no other
 pub burst_words : (ws : List ℕ) (raw first : ℕ) (vs : List ℕ) (i : ℕ) → length ws ≡ 129 → first + length vs ≤ 128 → Aimed (selector ws) raw first (length vs)
@@ -75,7 +67,7 @@ pub burst_words : (ws : List ℕ) (raw first : ℕ) (vs : List ℕ) (i : ℕ) �
 burst_words ws raw first [] i size fits at = refl
 burst_words ws raw first (v ∷ vs) i size fits at =
     let same : selector (set ws first v) ≡ selector ws = get_or-set_other ws first 128 v 0 (λ e. omega arith) in
-    let next = subst (λ s. Aimed s (raw + 1) (first + 1) (length vs)) (sym same) (aimed_next (selector ws) raw first (length vs) at) in
+    let next : Aimed (selector (set ws first v)) (raw + 1) (first + 1) (length vs) = rw same (aimed_next (selector ws) raw first (length vs) at) in
     ap (λ xs. get_or (all_stored xs (rising (raw + 1) vs)) i 0) (stored_set ws raw first (length (v ∷ vs)) v (omega arith) at)
     ∙ burst_words (set ws first v) (raw + 1) (first + 1) vs i (length-set ws first v ∙ size) (omega arith) next
     ∙ ran_same (first + 1) vs (λ k. get_or (set ws first v) k 0) (replaced first v (λ k. get_or ws k 0)) i (set_replaces ws first v i (omega arith))

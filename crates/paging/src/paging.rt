@@ -10,7 +10,7 @@ use bus::checks::check_measure;
 use chart::class::Chart;
 use chart::patch::Patch;
 use chart::refusal::{Errand, Failure, Fault, Refusal};
-use pages::places::{room_of, Place};
+use pages::places::{Place, room_of};
 use port::port::Port;
 
 #[derive(Drop)]
@@ -20,7 +20,7 @@ pub struct Paging<B> {
     page: Option<u16>,
 }
 
-// A register that the chart has.
+// A register by its number, which lies below 128 in every chart.
 #[derive(Clone, Copy)]
 struct Register {
     number: u16,
@@ -40,6 +40,7 @@ impl Register {
     }
 }
 
+// The clauses go through `paging_model`, since the `Value` of a model cannot yet be a type among a bound's members.
 impl<B: Bus> Paging<B> {
     // Over a new bus this is a new port.
     pub fn new(bus: B) -> Paging<B>

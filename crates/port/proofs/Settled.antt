@@ -1,15 +1,14 @@
 -- What is known of a call that is not refused before anything is sent. Assumes nothing.
-use Rattle.std.proofs.Common.{◌≡◌, ℕ, zero, suc, ◌≢◌, ◌+◌, ◌-◌, ◌<◌, ◌≤◌, Bool, true, false, ◌||◌, [], ◌∷◌, eqb, ltb, map, Some, None, Option, sym, refl, ap, ◌∙◌, ⊎_elim, add-one, arith, rules}
-use Rattle.std.proofs.lemmas.Bool.{cases_Bool, cases_lt, cases_eq, or_right}
+use Rattle.std.proofs.Common.{◌≡◌, ℕ, zero, suc, ◌≢◌, ◌+◌, ◌-◌, ◌<◌, ◌≤◌, Bool, true, false, ◌||◌, [], ◌∷◌, eqb, ltb, map, None, sym, refl, ap, ◌∙◌, ⊎_elim, add-one, arith, rules}
+use Rattle.std.proofs.lemmas.Bool.{cases_lt}
 use Rattle.std.proofs.lemmas.Bool.Decides.{nat_tests}
 use Rattle.std.specs.List.{fold, range_with_len}
 use Rattle.std.proofs.lemmas.List.FromFn.{map-range_with_len_more}
 use Rattle.std.proofs.lemmas.List.Sums.{fold-append}
-use Rattle.chart.specs.Replies.{Reply}
 use Rattle.chart.specs.Rules.{ChartRules}
 use Rattle.chart.specs.declared.class.Class.{Class}
 use Rattle.chart.specs.declared.class.Class.TheVariants.{Absent, Setting, Live}
-use Rattle.bus.specs.Checks.{asleep, measure_check}
+use Rattle.bus.specs.Checks.{measure_check}
 use Rattle.port.specs.Checks.{read_check, update_check, worse, worst, run_check}
 
 pub read_settled : (keeps : Bool) (c : Class) (on : Bool) → read_check keeps c on ≡ None → (c ≢ Absent) × ((keeps || on) ≡ true)

@@ -53,6 +53,7 @@ pub trait Port {
     fn supply(&self) -> bool
         ensures { result ≡ (chip (model self.now)).supply };
 
+    // What it can reach now, by which its calls are checked.
     fn access(&self) -> Access
         ensures keeps { result.keeps ≡ KEEPS }
         ensures supply { result.supply ≡ (chip (model self.now)).supply }
