@@ -1,8 +1,8 @@
 -- What paging's transfers leave, from the meaning of the bus alone. Assumes nothing.
-use Rattle.std.proofs.Common.{◌≡◌, ℕ, ◌+◌, ◌-◌, ◌%◌, ◌<◌, ◌≤◌, true, false, cond, eqb, ltb, leb, ◌⊎◌, List, [], ◌∷◌, ◌++◌, length, get_or, take, drop, Some, None, Option, sym, refl, ap, ◌∙◌, subst, inl, inr, ⊎_elim, add-zero, add_assoc, arith}
+use Rattle.std.proofs.Common.{◌≡◌, ℕ, ◌+◌, ◌-◌, ◌%◌, ◌<◌, ◌≤◌, true, false, ltb, leb, ◌⊎◌, List, [], ◌∷◌, ◌++◌, length, get_or, set, take, drop, Some, None, Option, sym, refl, ap, ◌∙◌, subst, inl, inr, ⊎_elim, add-zero, add_assoc, arith, rules}
 use lib.Seq.{take-append-add}
 use Rattle.std.proofs.lemmas.List.{get_or-set_same, get_or-set_other, length-take-le, length-append, length-drop, take-append-le, take-append-drop}
-use Rattle.std.proofs.lemmas.Bool.{cases_Bool, or_cases, ltb-true, eqb-true, leb-true, leb-false, cond-true, cond-false}
+use Rattle.std.proofs.lemmas.Bool.{cases_Bool, or_cases, ltb-true, leb-true, leb-false}
 use Rattle.std.proofs.lemmas.Bool.Decides.{nat_tests}
 use Rattle.chart.specs.Replies.{Reply, accepted, refused}
 use Rattle.chart.specs.declared.class.Class.{Class}
@@ -13,7 +13,7 @@ use Rattle.bus.specs.Checks.{get_check, put_check}
 use Rattle.bus.specs.Meaning.{Steps, BusMeaning, Got, Put}
 use Rattle.port.specs.Views.{word_in, ran}
 use Rattle.pages.specs.Places.{page_of, raw_of, room_of}
-use Rattle.pages.specs.Machine.{PagingModel, PagingSound, Believed, paged, located, believes, ready, selected, onward, reached, got, told_at, fetched, piece_sent, run_sent}
+use Rattle.pages.specs.Machine.{PagingModel, PagingSound, Believed, paged, believes, ready, selected, onward, reached, got, told_at, fetched, piece_sent, run_sent}
 use Rattle.pages.proofs.Storing.{Aimed, aimed, aimed_less, loaded_at, ran_same, ran_outside, ran-append, burst_words}
 
 put_goes : (raw n : ℕ) → 0 < n → n ≤ 16 → raw + n ≤ 64 → put_check raw n true ≡ None
@@ -24,19 +24,12 @@ get_goes raw low = grind (arith, nat_tests)
 
 -- what is aimed at lies below raw 64
 aimed_below : (s raw first n : ℕ) → Aimed s raw first n → raw + n ≤ 64
-aimed_below s raw first n (some, inl (e, fits)) = omega arith
-aimed_below s raw first n (some, inr (low, fits, page, e)) = fits
+aimed_below s raw first n at = grind arith
 
 -- a page that is believed to be this one
 believed_is : (page : Option ℕ) (p s : ℕ) → believes page p ≡ true → Believed page s → s ≡ p
-believed_is None p s e b = let z : ◌≡◌ {A = ℕ} 0 1 = cc in absurd (omega arith)
-believed_is (Some q) p s e b = sym b ∙ eqb-true q p e
-
-pub onward_goes : {M : Type 0} (p : Reply × M) (vs : List ℕ) (next : M → Reply × M) → p.0 ≡ accepted vs → onward p next ≡ next p.1
-onward_goes p vs next e = cond-true _ (next p.1) p (ap (λ (r : Reply). eqb r.number 0) e)
-
-pub onward_stops : {M : Type 0} (p : Reply × M) (vs : List ℕ) (next : M → Reply × M) → p.0 ≡ refused 6 vs → onward p next ≡ p
-onward_stops p vs next e = cond-false _ (next p.1) p (ap (λ (r : Reply). eqb r.number 0) e)
+believed_is None p s e b = search rules
+believed_is (Some q) p s e b = search rules
 
 module _ {class : ℕ → Class} {reset : ℕ → ℕ} {M : Type 0} (step : Steps M) (chip : M → Chip) (Sound New : M → Type 0) (bus : BusMeaning class reset step chip Sound New) where
   abbrev pub word : PagingModel M → ℕ → ℕ
@@ -92,32 +85,20 @@ module _ {class : ℕ → Class} {reset : ℕ → ℕ} {M : Type 0} (step : Step
       → Put (chip m.bus) 0 (page_of n ∷ []) p.0 (chip p.1) → Reaches m n (selected n p)
   selects m n p sound low after (inl (r, is)) =
       let ws = (chip m.bus).words in
-      let page : selector (chip p.1).words ≡ page_of n =
-      ap (λ (c : Chip). selector c.words) is ∙ get_or-set_same ws 128 (page_of n % 4) 0 (omega (arith, (bus.words m.bus sound.0).size)) ∙ (omega arith) in
-      inl (
-        ap (located n) r,
+      let page : get_or (set ws 128 (page_of n % 4)) 128 0 ≡ page_of n = get_or-set_same ws 128 (page_of n % 4) 0 (omega (arith, (bus.words m.bus sound.0).size)) ∙ (omega arith) in
+      rw (r, is) (inl (
+        refl,
         record {
-          sound = (after, subst (λ (r : Reply). Believed (cond (eqb r.number 0) (Some (page_of n)) None) (selector (chip p.1).words)) (sym r) (sym page));
-          words = λ i h. ap (λ (c : Chip). get_or c.words i 0) is ∙ get_or-set_other ws 128 i (page_of n % 4) 0 (λ e. omega arith);
-          supply = ap (λ (c : Chip). c.supply) is;
-          failed = ap (λ (c : Chip). c.failed) is ∙ sym (add-zero _);
+          sound = (after, rw is (sym page));
+          words = λ i h. rw is (get_or-set_other ws 128 i (page_of n % 4) 0 (λ e. omega arith));
+          supply = rw is refl;
+          failed = rw is (sym (add-zero _));
         },
         inr page,
-      )
+      ))
   selects m n p sound low after (inr (cause, k, few, r, is)) =
       let none : k ≡ 0 = omega arith in
-      let same = is ∙ ap (λ j. record { words = all_stored (chip m.bus).words (rising 0 (take j (page_of n ∷ []))); supply = (chip m.bus).supply; failed = (chip m.bus).failed + 1 }) none in
-      let told = r ∙ ap (λ j. refused 6 (cause ∷ j ∷ [])) none in
-      inr (
-        cause,
-        ap (located n) told,
-        record {
-          sound = (after, subst (λ (r : Reply). Believed (cond (eqb r.number 0) (Some (page_of n)) None) (selector (chip p.1).words)) (sym r) tt);
-          words = λ i h. ap (λ (c : Chip). get_or c.words i 0) same;
-          supply = ap (λ (c : Chip). c.supply) same;
-          failed = ap (λ (c : Chip). c.failed) same;
-        },
-      )
+      rw (r, none) (inr (cause, refl, record { sound = (after, tt); words = λ i h. rw (is, none) refl; supply = rw is refl; failed = rw is refl }))
 
   pub reaches : (m : PagingModel M) (n : ℕ) → PagingSound chip Sound m → awake_at m → n < 128 → Reaches m n (reached step m n)
   reaches m n sound on low = ⊎_elim stays goes (cases_Bool (ready m.page n))
@@ -138,28 +119,12 @@ module _ {class : ℕ → Class} {reset : ℕ → ℕ} {M : Type 0} (step : Step
   gets : (k : PagingModel M) (n : ℕ) (p : Reply × M) → PagingSound chip Sound k → Sound p.1 → Aimed (selector (chip k.bus).words) (raw_of n) n 1
       → Got (chip k.bus) (raw_of n) p.0 (chip p.1) → Fetches k n (got step k n p)
   gets k n p sound after at (inl (r, is)) =
-      let ws = (chip k.bus).words in
-      let answer = r ∙ ap (λ w. accepted (w ∷ [])) (loaded_at ws (raw_of n) n 1 (omega arith) at) in
-      inl (
-        cond-true _ p.0 (located n p.0) (ap (λ (r : Reply). eqb r.number 0) r) ∙ answer,
-        record {
-          sound = (after, subst (λ (c : Chip). Believed k.page (selector c.words)) (sym is) sound.1);
-          words = λ i h. ap (λ (c : Chip). get_or c.words i 0) is;
-          supply = ap (λ (c : Chip). c.supply) is;
-          failed = ap (λ (c : Chip). c.failed) is ∙ sym (add-zero _);
-        },
-      )
+      rw r (inl (
+        ap (λ w. accepted (w ∷ [])) (loaded_at (chip k.bus).words (raw_of n) n 1 (omega arith) at),
+        record { sound = (after, rw is sound.1); words = λ i h. rw is refl; supply = rw is refl; failed = rw is (sym (add-zero _)) },
+      ))
   gets k n p sound after at (inr (cause, r, is)) =
-      inr (
-        cause,
-        cond-false _ p.0 (located n p.0) (ap (λ (r : Reply). eqb r.number 0) r) ∙ ap (located n) r,
-        record {
-          sound = (after, subst (λ (c : Chip). Believed k.page (selector c.words)) (sym is) sound.1);
-          words = λ i h. ap (λ (c : Chip). get_or c.words i 0) is;
-          supply = ap (λ (c : Chip). c.supply) is;
-          failed = ap (λ (c : Chip). c.failed) is;
-        },
-      )
+      rw r (inr (cause, refl, record { sound = (after, rw is sound.1); words = λ i h. rw is refl; supply = rw is refl; failed = rw is refl }))
 
   -- a chip after a burst that was aimed at registers
   burst_left : (k : PagingModel M) (b : M) (first n : ℕ) (vs : List ℕ) → PagingSound chip Sound k → Sound b → first + length vs ≤ 128
@@ -167,32 +132,19 @@ module _ {class : ℕ → Class} {reset : ℕ → ℕ} {M : Type 0} (step : Step
       → chip b ≡ record { words = all_stored (chip k.bus).words (rising (raw_of first) vs); supply = (chip k.bus).supply; failed = (chip k.bus).failed + n }
       → Left k (paged b k.page) (ran first vs (word k)) n
   burst_left k b first n vs sound after last at is =
-      let stored = λ (i : ℕ). ap (λ (c : Chip). get_or c.words i 0) is ∙ burst_words (chip k.bus).words (raw_of first) first vs i (bus.words k.bus sound.0).size last at in
-      let same : selector (chip b).words ≡ selector (chip k.bus).words = stored 128 ∙ ran_outside first vs (word k) 128 (inr last) in
-      record {
-        sound = (after, subst (Believed k.page) (sym same) sound.1);
-        words = λ i h. stored i;
-        supply = ap (λ (c : Chip). c.supply) is;
-        failed = ap (λ (c : Chip). c.failed) is;
-      }
+      let stored = λ (i : ℕ). burst_words (chip k.bus).words (raw_of first) first vs i (bus.words k.bus sound.0).size last at in
+      let same = stored 128 ∙ ran_outside first vs (word k) 128 (inr last) in
+      record { sound = (after, rw (is, same) sound.1); words = λ i h. rw is (stored i); supply = rw is refl; failed = rw is refl }
 
   puts : (k : PagingModel M) (first : ℕ) (ws : List ℕ) (p : Reply × M) → PagingSound chip Sound k → Sound p.1 → first + length ws ≤ 128
       → Aimed (selector (chip k.bus).words) (raw_of first) first (length ws)
       → Put (chip k.bus) (raw_of first) ws p.0 (chip p.1) → Stores k first ws (told_at step k first p)
   puts k first ws p sound after last at (inl (r, is)) =
-      inl (ap (located first) r, burst_left k p.1 first 0 ws sound after last at (is ∙ ap (λ n. record { words = all_stored (chip k.bus).words (rising (raw_of first) ws); supply = (chip k.bus).supply; failed = n }) (sym (add-zero _))))
+      rw r (inl (refl, burst_left k p.1 first 0 ws sound after last at (is ∙ ap (λ n. record { words = all_stored (chip k.bus).words (rising (raw_of first) ws); supply = (chip k.bus).supply; failed = n }) (sym (add-zero _)))))
   puts k first ws p sound after last at (inr (cause, j, few, r, is)) =
       let part : length (take j ws) ≡ j = length-take-le j ws (omega arith) in
-      inr (
-        j,
-        few,
-        (
-          cause,
-          ap (located first) r,
-          burst_left k p.1 first 1 (take j ws) sound after (omega arith)
-              (aimed_less (selector (chip k.bus).words) (raw_of first) first (length ws) (length (take j ws)) (omega arith) at) is,
-        ),
-      )
+      let front = aimed_less (selector (chip k.bus).words) (raw_of first) first (length ws) (length (take j ws)) (omega arith) at in
+      rw r (inr (j, few, (cause, refl, burst_left k p.1 first 1 (take j ws) sound after (omega arith) front is)))
 
   pub fetches : (m : PagingModel M) (n : ℕ) → PagingSound chip Sound m → awake_at m → 1 ≤ n → n < 128 → Fetches m n (fetched step m n)
   fetches m n sound on some low = ⊎_elim goes stops (reaches m n sound on low)
@@ -209,12 +161,12 @@ module _ {class : ℕ → Class} {reset : ℕ → ℕ} {M : Type 0} (step : Step
           let at = aimed (selector (chip k.bus).words) n 1 facing some (omega arith) (omega arith) (omega arith) in
           let sent = bus.get_sent k.bus (raw_of n) left.sound.0 (ap (get_check (raw_of n)) (left.supply ∙ on) ∙ get_goes (raw_of n) (omega (arith, aimed_below _ _ _ _ at))) in
           let done = gets k n (step.get k.bus (raw_of n)) left.sound (bus.get_sound k.bus (raw_of n) left.sound.0) at sent in
-          subst (Fetches m n) (sym (onward_goes first [] next r)) (⊎_elim
+          rw r (⊎_elim
           (λ d. inl (d.0 ∙ ap (λ w. accepted (w ∷ [])) (left.words n low), left_on m k (next k).1 (word m) (word k) (word m) 0 left d.1 (λ i e. e)))
           (λ d. inr (d.0, d.1, left_on m k (next k).1 (word m) (word k) (word m) 1 left d.2 (λ i e. e))) done)
 
       stops : Broken m first (n + 0) (word m) → Fetches m n (fetched step m n)
-      stops b = subst (Fetches m n) (sym (onward_stops first _ next b.1)) (inr b)
+      stops b = rw b.1 (inr b)
 
   -- words stored after a call that left f
   pub stores_on : (m k : PagingModel M) (f : ℕ → ℕ) (first : ℕ) (ws : List ℕ) (q : Reply × PagingModel M) → Left m k f 0 → Stores k first ws q → StoresOver f m first ws q
@@ -239,30 +191,29 @@ module _ {class : ℕ → Class} {reset : ℕ → ℕ} {M : Type 0} (step : Step
           let at = aimed (selector (chip k.bus).words) first (length ws) facing begin block last some in
           let sent = bus.put_sent k.bus (raw_of first) ws left.sound.0 (ap (put_check (raw_of first) (length ws)) (left.supply ∙ on) ∙ put_goes (raw_of first) (length ws) some few (aimed_below _ _ _ _ at)) in
           let done = puts k first ws (step.put k.bus (raw_of first) ws) left.sound (bus.put_sound k.bus (raw_of first) ws left.sound.0 fit) last at sent in
-          subst (Stores m first ws) (sym (onward_goes way [] next r)) (stores_on m k (word m) first ws (next k) left done)
+          rw r (stores_on m k (word m) first ws (next k) left done)
 
       stops : Broken m way (first + 0) (word m) → Stores m first ws (piece_sent step m first ws)
-      stops b = subst (Stores m first ws) (sym (onward_stops way _ next b.1)) (inr (0, some, b))
+      stops b = rw b.1 (inr (0, some, b))
 
   -- the first words of a longer list, cut short by a fault
   stores_front : (m : PagingModel M) (first : ℕ) (xs ys : List ℕ) (q : Reply × PagingModel M) (j : ℕ) → j < length xs
       → Broken m q (first + j) (ran first (take j xs) (word m)) → Stores m first (xs ++ ys) q
-  stores_front m first xs ys q j few b =
-      let more : j < length (xs ++ ys) = omega (arith, length-append xs ys) in
-      inr (j, more, subst (λ zs. Broken m q (first + j) (ran first zs (word m))) (sym (take-append-le j xs ys (omega arith))) b)
+  stores_front m first xs ys q j few b = inr (j, omega (arith, length-append xs ys), rw (take-append-le j xs ys (omega arith)) b)
+
+  -- words stored after others, as one list
+  as_whole : (m k : PagingModel M) (first : ℕ) (xs ys : List ℕ) (n : ℕ) → Left m k (ran (first + length xs) ys (ran first xs (word m))) n → Left m k (ran first (xs ++ ys) (word m)) n
+  as_whole m k first xs ys n l = record { sound = l.sound; words = λ i h. l.words i h ∙ ran-append first xs ys (word m) i; supply = l.supply; failed = l.failed }
 
   -- the rest of the list after them
   stores_back : (m : PagingModel M) (first : ℕ) (xs ys : List ℕ) (q : Reply × PagingModel M)
       → StoresOver (ran first xs (word m)) m (first + length xs) ys q → Stores m first (xs ++ ys) q
-  stores_back m first xs ys q (inl (r, left)) = inl (r, as_whole ys 0 left)
-    where
-      as_whole : (zs : List ℕ) (n : ℕ) → Left m q.1 (ran (first + length xs) zs (ran first xs (word m))) n → Left m q.1 (ran first (xs ++ zs) (word m)) n
-      as_whole zs n l = record { sound = l.sound; words = λ i h. l.words i h ∙ ran-append first xs zs (word m) i; supply = l.supply; failed = l.failed }
-  stores_back m first xs ys q (inr (j, few, (cause, r, left))) =
-      let more : length xs + j < length (xs ++ ys) = omega (arith, length-append xs ys) in
-      let whole : Left m q.1 (ran first (xs ++ take j ys) (word m)) 1 =
-      record { sound = left.sound; words = λ i h. left.words i h ∙ ran-append first xs (take j ys) (word m) i; supply = left.supply; failed = left.failed } in
-      inr (length xs + j, more, (cause, r ∙ ap (λ n. refused 6 (cause ∷ n ∷ 0 ∷ [])) (add_assoc first (length xs) j), subst (λ zs. Left m q.1 (ran first zs (word m)) 1) (sym (take-append-add xs ys j)) whole))
+  stores_back m first xs ys q (inl (r, left)) = inl (r, as_whole m q.1 first xs ys 0 left)
+  stores_back m first xs ys q (inr (j, few, (cause, r, left))) = inr (
+    length xs + j,
+    omega (arith, length-append xs ys),
+    (cause, r ∙ ap (λ n. refused 6 (cause ∷ n ∷ 0 ∷ [])) (add_assoc first (length xs) j), rw (take-append-add xs ys j) (as_whole m q.1 first xs (take j ys) 1 left)),
+  )
 
   two_pieces : (m : PagingModel M) (first : ℕ) (xs ys : List ℕ) → PagingSound chip Sound m → awake_at m → Fit xs → Fit ys → 0 < length xs → 0 < length ys
       → length xs + length ys ≤ 16 → 1 ≤ first → first % 32 + length xs ≡ 32 → first + length xs + length ys ≤ 128
@@ -279,10 +230,10 @@ module _ {class : ℕ → Class} {reset : ℕ → ℕ} {M : Type 0} (step : Step
       goes (r, left) =
           let k = front.1 in
           let done = piece_stores k (first + length xs) ys left.sound (left.supply ∙ on) fit-ys more (omega arith) (omega arith) (omega arith) last in
-          subst (Stores m first (xs ++ ys)) (sym (onward_goes front [] next r)) (stores_back m first xs ys (next k) (stores_on m k (ran first xs (word m)) (first + length xs) ys (next k) left done))
+          rw r (stores_back m first xs ys (next k) (stores_on m k (ran first xs (word m)) (first + length xs) ys (next k) left done))
 
       stops : (k : ℕ) × (k < length xs) × Broken m front (first + k) (ran first (take k xs) (word m)) → Stores m first (xs ++ ys) (onward front next)
-      stops (j, less, b) = subst (Stores m first (xs ++ ys)) (sym (onward_stops front _ next b.1)) (stores_front m first xs ys front j less b)
+      stops (j, less, b) = rw b.1 (stores_front m first xs ys front j less b)
 
   pub run_stores : (m : PagingModel M) (first : ℕ) (ws : List ℕ) → PagingSound chip Sound m → awake_at m → Fit ws → 0 < length ws → length ws ≤ 16 → 1 ≤ first
       → first + length ws ≤ 128 → Stores m first ws (run_sent step m first ws)

@@ -1,7 +1,8 @@
 -- What a burst to registers of one page makes of a chip's words. Assumes nothing.
-use Rattle.std.proofs.Common.{◌≡◌, ℕ, zero, suc, ◌+◌, ◌*◌, ◌%◌, ◌<◌, ◌≤◌, cond, eqb, ◌⊎◌, List, [], ◌∷◌, ◌++◌, length, get_or, take, set, Some, sym, refl, ap, ◌∙◌, subst, inl, inr, ⊎_elim, add-zero, arith}
+use Rattle.std.proofs.Common.{◌≡◌, ℕ, zero, suc, ◌+◌, ◌*◌, ◌%◌, ◌<◌, ◌≤◌, cond, eqb, ◌⊎◌, List, [], ◌∷◌, ◌++◌, length, get_or, take, set, Some, sym, refl, ap, ◌∙◌, inl, inr, ⊎_elim, add-zero, arith}
 use Rattle.std.proofs.lemmas.List.{length-set, get_or-set_same, get_or-set_other}
-use Rattle.std.proofs.lemmas.Bool.{cases_eq, cases_lt, cond-true, cond-false, eq-eqb, ne_eqb, lt-ltb, le-ltb}
+use Rattle.std.proofs.lemmas.Bool.Decides.{nat_tests}
+use Rattle.std.proofs.lemmas.Bool.{cases_eq, cond-false, ne_eqb}
 use Rattle.chip.specs.Words.{selector, placed, loaded, stored_at, rising, all_stored}
 use Rattle.port.specs.Views.{replaced, ran}
 use Rattle.pages.specs.Places.{page_of, raw_of}
@@ -11,47 +12,26 @@ abbrev pub Aimed : ℕ → ℕ → ℕ → ℕ → Type 0
 Aimed s raw first n = (1 ≤ raw) × (((raw ≡ first) × (raw + n ≤ 32)) ⊎ ((32 ≤ raw) × (raw + n ≤ 64) × (s < 3) × (first ≡ raw + 32 * s)))
 
 pub aimed_less : (s raw first n k : ℕ) → k ≤ n → Aimed s raw first n → Aimed s raw first k
-aimed_less s raw first n k h (some, inl (e, fits)) = (some, inl (e, omega arith))
-aimed_less s raw first n k h (some, inr (low, fits, page, e)) = (some, inr (low, omega arith, page, e))
+aimed_less s raw first n k h at = grind arith
 
 aimed_next : (s raw first n : ℕ) → Aimed s raw first (suc n) → Aimed s (raw + 1) (first + 1) n
-aimed_next s raw first n (some, inl (e, fits)) = (omega arith, inl (omega arith, omega arith))
-aimed_next s raw first n (some, inr (low, fits, page, e)) = (omega arith, inr (omega arith, omega arith, page, omega arith))
+aimed_next s raw first n at = grind arith
 
 aimed_at : (s raw first n : ℕ) → 0 < n → Aimed s raw first n → placed s raw ≡ Some first
-aimed_at s raw first n h (some, inl (e, fits)) =
-    rw (ne_eqb raw 0 (λ z. omega arith), lt-ltb raw 32 (omega arith)) (ap Some e)
-aimed_at s raw first n h (some, inr (low, fits, page, e)) =
-    rw (ne_eqb raw 0 (λ z. omega arith), le-ltb raw 32 low, lt-ltb raw 64 (omega arith), lt-ltb s 3 page) (ap Some (sym e))
+aimed_at s raw first n h at = grind (arith, nat_tests)
 
 -- a register that its page, or none, is selected for
 pub aimed : (s n k : ℕ) → (n < 32) ⊎ (s ≡ page_of n) → 1 ≤ n → n % 32 + k ≤ 32 → n + k ≤ 128 → 0 < k → Aimed s (raw_of n) n k
-aimed s n k facing some block last h = ⊎_elim fixed on_page (cases_lt n 32)
-  where
-    fixed : n < 32 → Aimed s (raw_of n) n k
-    fixed low = rw (lt-ltb n 32 low) (some, inl (refl, omega arith))
-
-    on_page : 32 ≤ n → Aimed s (raw_of n) n k
-    on_page high =
-        let page : s ≡ page_of n = ⊎_elim (λ low. absurd (omega arith)) (λ e. e) facing in
-        rw (le-ltb n 32 high) (omega arith, inr (omega arith, omega arith, omega arith, omega arith))
+aimed s n k facing some block last h = grind (arith, nat_tests)
 
 pub loaded_at : (ws : List ℕ) (raw n k : ℕ) → 0 < k → Aimed (selector ws) raw n k → loaded ws raw ≡ get_or ws n 0
 loaded_at ws raw n k h at = rw (aimed_at (selector ws) raw n k h at)
 
 stored_set : (ws : List ℕ) (raw n k w : ℕ) → 0 < k → Aimed (selector ws) raw n k → stored_at ws raw w ≡ set ws n w
-stored_set ws raw n k w h at =
-    let own = ne_eqb raw 0 (λ z. omega (arith, at.0)) in
-    rw (aimed_at (selector ws) raw n k h at, own)
+stored_set ws raw n k w h at = rw (aimed_at (selector ws) raw n k h at, ne_eqb raw 0 (λ z. omega (arith, at.0)))
 
 pub set_replaces : (ws : List ℕ) (n w i : ℕ) → n < length ws → get_or (set ws n w) i 0 ≡ replaced n w (λ k. get_or ws k 0) i
-set_replaces ws n w i h = ⊎_elim same other (cases_eq i n)
-  where
-    same : i ≡ n → get_or (set ws n w) i 0 ≡ replaced n w (λ k. get_or ws k 0) i
-    same e = ap (λ k. get_or (set ws n w) k 0) e ∙ get_or-set_same ws n w 0 h ∙ sym (cond-true _ w (get_or ws i 0) (eq-eqb i n e))
-
-    other : (i ≡ n → ⊥) → get_or (set ws n w) i 0 ≡ replaced n w (λ k. get_or ws k 0) i
-    other ne = get_or-set_other ws n i w 0 ne ∙ sym (cond-false _ w (get_or ws i 0) (ne_eqb i n ne))
+set_replaces ws n w i h = grind (arith, nat_tests, get_or-set_same, get_or-set_other)
 
 -- a word after a run is known by that word before it
 pub ran_same : (first : ℕ) (vs : List ℕ) (f g : ℕ → ℕ) (i : ℕ) → f i ≡ g i → ran first vs f i ≡ ran first vs g i
@@ -61,31 +41,25 @@ ran_same first (v ∷ vs) f g i e = ran_same (first + 1) vs (replaced first v f)
 -- what lies before or after a run stands
 pub ran_outside : (first : ℕ) (vs : List ℕ) (f : ℕ → ℕ) (i : ℕ) → (i < first) ⊎ (first + length vs ≤ i) → ran first vs f i ≡ f i
 ran_outside first [] f i out = refl
-ran_outside first (v ∷ vs) f i out =
-    let away : (i < first + 1) ⊎ (first + 1 + length vs ≤ i) = ⊎_elim (λ h. inl (omega arith)) (λ h. inr (omega arith)) out in
-    let ne : i ≡ first → ⊥ = λ e. ⊎_elim (λ (h : i < first). omega arith) (λ (h : first + length (v ∷ vs) ≤ i). omega arith) out in
-    ran_outside (first + 1) vs (replaced first v f) i away ∙ cond-false _ v (f i) (ne_eqb i first ne)
+ran_outside first (v ∷ vs) f i out = ran_outside (first + 1) vs (replaced first v f) i (grind arith) ∙ grind (arith, nat_tests)
 
 pub ran-append : (first : ℕ) (xs ys : List ℕ) (f : ℕ → ℕ) (i : ℕ) → ran (first + length xs) ys (ran first xs f) i ≡ ran first (xs ++ ys) f i
 ran-append first [] ys f i = ap (λ k. ran k ys f i) (add-zero first)
 ran-append first (x ∷ xs) ys f i =
     let moved : first + length (x ∷ xs) ≡ first + 1 + length xs = omega arith in
-    ap (λ k. ran k ys (ran (first + 1) xs (replaced first x f)) i) moved ∙ ran-append (first + 1) xs ys (replaced first x f) i
+    rw moved (ran-append (first + 1) xs ys (replaced first x f) i)
 
 -- part of a run leaves each word old or as the whole run would
 pub ran_part : (first : ℕ) (vs : List ℕ) (k : ℕ) (f : ℕ → ℕ) (i : ℕ) → (ran first (take k vs) f i ≡ f i) ⊎ (ran first (take k vs) f i ≡ ran first vs f i)
 ran_part first vs zero f i = inl refl
 ran_part first [] (suc k) f i = inl refl
-ran_part first (v ∷ vs) (suc k) f i = ⊎_elim old (λ e. inr e) (ran_part (first + 1) vs k (replaced first v f) i)
-  where
-    part : ℕ
-    part = ran first (take (suc k) (v ∷ vs)) f i
-
-    old : part ≡ replaced first v f i → (part ≡ f i) ⊎ (part ≡ ran first (v ∷ vs) f i)
-    old e = ⊎_elim
-        (λ here. inr (e ∙ sym (ran_outside (first + 1) vs (replaced first v f) i (inl (omega arith)))))
-        (λ away. inl (e ∙ cond-false _ v (f i) (ne_eqb i first away)))
-        (cases_eq i first)
+ran_part first (v ∷ vs) (suc k) f i = ⊎_elim
+    (λ old. ⊎_elim
+    (λ here. inr (old ∙ sym (ran_outside (first + 1) vs (replaced first v f) i (inl (omega arith)))))
+    (λ away. inl (old ∙ cond-false _ v (f i) (ne_eqb i first away)))
+    (cases_eq i first))
+    (λ e. inr e)
+    (ran_part (first + 1) vs k (replaced first v f) i)
 
 -- a burst that is aimed at registers replaces their words, and no other
 pub burst_words : (ws : List ℕ) (raw first : ℕ) (vs : List ℕ) (i : ℕ) → length ws ≡ 129 → first + length vs ≤ 128 → Aimed (selector ws) raw first (length vs)
@@ -93,7 +67,7 @@ pub burst_words : (ws : List ℕ) (raw first : ℕ) (vs : List ℕ) (i : ℕ) �
 burst_words ws raw first [] i size fits at = refl
 burst_words ws raw first (v ∷ vs) i size fits at =
     let same : selector (set ws first v) ≡ selector ws = get_or-set_other ws first 128 v 0 (λ e. omega arith) in
-    let next = subst (λ s. Aimed s (raw + 1) (first + 1) (length vs)) (sym same) (aimed_next (selector ws) raw first (length vs) at) in
+    let next : Aimed (selector (set ws first v)) (raw + 1) (first + 1) (length vs) = rw same (aimed_next (selector ws) raw first (length vs) at) in
     ap (λ xs. get_or (all_stored xs (rising (raw + 1) vs)) i 0) (stored_set ws raw first (length (v ∷ vs)) v (omega arith) at)
     ∙ burst_words (set ws first v) (raw + 1) (first + 1) vs i (length-set ws first v ∙ size) (omega arith) next
     ∙ ran_same (first + 1) vs (λ k. get_or (set ws first v) k 0) (replaced first v (λ k. get_or ws k 0)) i (set_replaces ws first v i (omega arith))

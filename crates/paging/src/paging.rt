@@ -1,16 +1,16 @@
 // Every register by its number, over any bus: a page is selected where it is not believed to be.
 ghost use Rattle.std.specs.Prelude.{◌≡◌, ◌+◌, ◌<◌, ◌≤◌, false, length, Some};
 ghost use Rattle.chart.specs.Replies.{told, failure_values, fault_values, port_reply, word_value, no_value};
-ghost use Rattle.pages.specs.Machine.{PagingModel, PagingSound, PagingNew, paged, located, ready, reached, fetched, piece_sent, rewritten, update_sent, run_sent, paging_steps, paging_shown};
+ghost use Rattle.pages.specs.Machine.{PagingModel, PagingSound, PagingNew, paged, located, reached, fetched, piece_sent, update_sent, run_sent, paging_steps, paging_shown};
 ghost use Rattle.paging.specs.Made.{paging_model};
 ghost use Rattle.pages.proofs.PagingMeaning.{paging_meaning};
 
 use bus::bus::Bus;
+use bus::checks::check_measure;
 use chart::class::Chart;
 use chart::patch::Patch;
 use chart::refusal::{Errand, Failure, Fault, Refusal};
-use pages::places::{place_of, room_of};
-use port::checks::{measure_refusal, read_refusal, run_refusal, update_refusal};
+use pages::places::{Place, room_of};
 use port::port::Port;
 
 #[derive(Drop)]
@@ -20,38 +20,27 @@ pub struct Paging<B> {
     page: Option<u16>,
 }
 
-// A refusal of the bus, where a fault names the first register that was not stored.
-fn at_register(refusal: Refusal<Failure>, register: u16) -> Refusal<Fault>
-    requires { register < 128 }
-    ensures { told fault_values result ≡ located register (told failure_values refusal) }
-{
-    match refusal {
-        Refusal::Length => Refusal::Length,
-        Refusal::Register => Refusal::Register,
-        Refusal::Live => Refusal::Live,
-        Refusal::Setting => Refusal::Setting,
-        Refusal::Asleep => Refusal::Asleep,
-        Refusal::Line(failure) => Refusal::Line(Fault {
+// A register by its number, which lies below 128 in every chart.
+#[derive(Clone, Copy)]
+struct Register {
+    number: u16,
+    ghost small: { number < 128 },
+}
+
+impl Register {
+    // A refusal of the bus, where a fault names the first register that was not stored.
+    fn locate(self, refusal: Refusal<Failure>) -> Refusal<Fault>
+        ensures { told fault_values result ≡ located self.number (told failure_values refusal) }
+    {
+        refusal.map(|failure| Fault {
             cause: failure.cause,
-            register: register + u16::from(failure.stored),
+            register: self.number + u16::from(failure.stored),
             errand: Errand::Asked,
-        }),
-        Refusal::Address => Refusal::Address,
-        Refusal::Memory => Refusal::Memory,
+        })
     }
 }
 
-// Whether a register can be reached as things are.
-fn is_ready(page: Option<u16>, register: u16) -> bool
-    ensures { result ≡ ready page register }
-{
-    match page {
-        _ if register < 32 => true,
-        Some(page) => page == place_of(register).page,
-        None => false,
-    }
-}
-
+// The clauses go through `paging_model`, since the `Value` of a model cannot yet be a type among a bound's members.
 impl<B: Bus> Paging<B> {
     // Over a new bus this is a new port.
     pub fn new(bus: B) -> Paging<B>
@@ -61,67 +50,45 @@ impl<B: Bus> Paging<B> {
         Paging { bus, page: Some(0) }
     }
 
-    // Selects the page of a register, unless it is believed to be selected.
-    fn reach(&mut self, register: u16) -> Result<(), Refusal<Fault>>
-        requires { register < 128 }
-        ensures { (port_reply no_value result, paging_model B.Bus.model self.new) ≡ reached (B.Bus.steps B.Chart.Chart.classed B.Chart.Chart.resets) (paging_model B.Bus.model self.old) register }
+    // Selects the page of a register, unless it is believed to be selected. While that may fail, no page is.
+    fn reach(&mut self, register: Register) -> Result<(), Refusal<Fault>>
+        ensures { (port_reply no_value result, paging_model B.Bus.model self.new) ≡ reached (B.Bus.steps B.Chart.Chart.classed B.Chart.Chart.resets) (paging_model B.Bus.model self.old) register.number }
     {
-        if is_ready(self.page, register) {
+        let page = Place::of(register.number).page;
+        if register.number < 32 || self.page == Some(page) {
             return Ok(());
         }
-        let page = place_of(register).page;
-        match self.bus.put(0, &[page]) {
-            Ok(()) => {
-                self.page = Some(page);
-                Ok(())
-            }
-            Err(refusal) => {
-                self.page = None;
-                Err(at_register(refusal, register))
-            }
-        }
+        self.page = None;
+        self.bus
+            .put(0, &[page])
+            .map_err(|refusal| register.locate(refusal))?;
+        self.page = Some(page);
+        Ok(())
     }
 
     // A get of one register.
-    fn fetch(&mut self, register: u16) -> Result<u16, Refusal<Fault>>
-        requires { register < 128 }
-        ensures { (port_reply word_value result, paging_model B.Bus.model self.new) ≡ fetched (B.Bus.steps B.Chart.Chart.classed B.Chart.Chart.resets) (paging_model B.Bus.model self.old) register }
+    fn fetch(&mut self, register: Register) -> Result<u16, Refusal<Fault>>
+        ensures { (port_reply word_value result, paging_model B.Bus.model self.new) ≡ fetched (B.Bus.steps B.Chart.Chart.classed B.Chart.Chart.resets) (paging_model B.Bus.model self.old) register.number }
     {
         self.reach(register)?;
-        match self.bus.get(place_of(register).raw) {
-            Ok(word) => Ok(word),
-            Err(refusal) => Err(at_register(refusal, register)),
-        }
+        self.bus
+            .get(Place::of(register.number).raw)
+            .map_err(|refusal| register.locate(refusal))
     }
 
     // One put, to registers of one page.
-    fn send(&mut self, first: u16, words: &[u16]) -> Result<(), Refusal<Fault>>
-        requires { first < 128 }
-        ensures { (port_reply no_value result, paging_model B.Bus.model self.new) ≡ piece_sent (B.Bus.steps B.Chart.Chart.classed B.Chart.Chart.resets) (paging_model B.Bus.model self.old) first words.now }
+    fn send(&mut self, first: Register, words: &[u16]) -> Result<(), Refusal<Fault>>
+        ensures { (port_reply no_value result, paging_model B.Bus.model self.new) ≡ piece_sent (B.Bus.steps B.Chart.Chart.classed B.Chart.Chart.resets) (paging_model B.Bus.model self.old) first.number words.now }
     {
         self.reach(first)?;
-        match self.bus.put(place_of(first).raw, words) {
-            Ok(()) => Ok(()),
-            Err(refusal) => Err(at_register(refusal, first)),
-        }
+        self.bus
+            .put(Place::of(first.number).raw, words)
+            .map_err(|refusal| first.locate(refusal))
     }
 
-    // The word goes out where it differs.
-    fn rewrite(&mut self, register: u16, patch: Patch, old: u16) -> Result<(), Refusal<Fault>>
-        requires { register < 128 }
-        ensures { (port_reply no_value result, paging_model B.Bus.model self.new) ≡ rewritten (B.Bus.steps B.Chart.Chart.classed B.Chart.Chart.resets) (paging_model B.Bus.model self.old) register patch old }
-    {
-        let new = patch.act(old);
-        if new == old {
-            return Ok(());
-        }
-        self.send(register, &[new])
-    }
-
-    // Nothing for a patch that is idle, one put for one that is complete, else a get and then a put.
-    fn send_update(&mut self, register: u16, patch: Patch) -> Result<(), Refusal<Fault>>
-        requires { register < 128 }
-        ensures { (port_reply no_value result, paging_model B.Bus.model self.new) ≡ update_sent (B.Bus.steps B.Chart.Chart.classed B.Chart.Chart.resets) (paging_model B.Bus.model self.old) register patch }
+    // Nothing for a patch that is idle, one put for one that is complete, else a get, and then a put where the word differs.
+    fn send_update(&mut self, register: Register, patch: Patch) -> Result<(), Refusal<Fault>>
+        ensures { (port_reply no_value result, paging_model B.Bus.model self.new) ≡ update_sent (B.Bus.steps B.Chart.Chart.classed B.Chart.Chart.resets) (paging_model B.Bus.model self.old) register.number patch }
     {
         if patch.is_idle() {
             return Ok(());
@@ -130,22 +97,28 @@ impl<B: Bus> Paging<B> {
             return self.send(register, &[patch.act(0)]);
         }
         let old = self.fetch(register)?;
-        self.rewrite(register, patch, old)
+        let new = patch.act(old);
+        if new == old {
+            return Ok(());
+        }
+        self.send(register, &[new])
     }
 
     // A run of at most 16 words meets at most one multiple of 32, where it is cut.
-    fn send_run(&mut self, first: u16, words: &[u16]) -> Result<(), Refusal<Fault>>
-        requires first { first < 128 }
-        requires last { first + length words.now ≤ 128 }
-        ensures { (port_reply no_value result, paging_model B.Bus.model self.new) ≡ run_sent (B.Bus.steps B.Chart.Chart.classed B.Chart.Chart.resets) (paging_model B.Bus.model self.old) first words.now }
+    fn send_run(&mut self, first: Register, words: &[u16]) -> Result<(), Refusal<Fault>>
+        requires { first.number + length words.now ≤ 128 }
+        ensures { (port_reply no_value result, paging_model B.Bus.model self.new) ≡ run_sent (B.Bus.steps B.Chart.Chart.classed B.Chart.Chart.resets) (paging_model B.Bus.model self.old) first.number words.now }
     {
-        let room = room_of(first);
-        if words.len() <= room {
+        let room = room_of(first.number);
+        if words.len() <= usize::from(room) {
             return self.send(first, words);
         }
-        let (front, back) = words.split_at(room);
+        let (front, back) = words.split_at(usize::from(room));
         self.send(first, front)?;
-        self.send(first + room as u16, back)
+        let next = Register {
+            number: first.number + room,
+        };
+        self.send(next, back)
     }
 }
 
@@ -154,7 +127,9 @@ impl<B: Bus> Port for Paging<B> {
 
     type Bus = B;
 
-    ghost keeps = { false };
+    const KEEPS: bool = false;
+
+    ghost KEEPS = { false };
 
     ghost Model = { PagingModel B.Bus.Model };
 
@@ -175,11 +150,7 @@ impl<B: Bus> Port for Paging<B> {
     ghost meaning = { let chart = B.Chart.Chart in
         let rules = B.Chart.Chart.rules in
         let bus = B.Bus in
-        paging_meaning rules (bus.steps chart.classed chart.resets) bus.chip bus.Sound (bus.New chart.resets) (bus.meaning chart.counted chart.classed chart.resets rules) };
-
-    fn keeps() -> bool {
-        false
-    }
+        paging_meaning rules (bus.steps chart.classed chart.resets) bus.chip bus.Sound (bus.New chart.resets) (bus.meaning chart.COUNT chart.classed chart.resets rules) };
 
     fn bus(&self) -> &B {
         &self.bus
@@ -190,37 +161,26 @@ impl<B: Bus> Port for Paging<B> {
     }
 
     fn read(&mut self, register: u16) -> Result<u16, Refusal<Fault>> {
-        let class = B::Chart::class(register);
-        if let Some(refusal) = read_refusal(false, class, self.bus.supply()) {
-            return Err(refusal);
-        }
-        self.fetch(register)
+        self.access().check_read(B::Chart::class(register))?;
+        self.fetch(Register { number: register })
     }
 
     fn update(&mut self, register: u16, patch: Patch) -> Result<(), Refusal<Fault>> {
-        let class = B::Chart::class(register);
-        if let Some(refusal) = update_refusal(false, class, self.bus.supply()) {
-            return Err(refusal);
-        }
-        self.send_update(register, patch)
+        self.access().check_update(B::Chart::class(register))?;
+        self.send_update(Register { number: register }, patch)
     }
 
     fn run(&mut self, first: u16, words: &[u16]) -> Result<(), Refusal<Fault>> {
-        let supply = self.bus.supply();
-        if let Some(refusal) = run_refusal::<B::Chart>(false, first, words.len(), supply) {
-            return Err(refusal);
-        }
-        self.send_run(first, words)
+        self.access().check_run::<B::Chart>(first, words.len())?;
+        self.send_run(Register { number: first }, words)
     }
 
     fn measure(&mut self, register: u16, word: u16) -> Result<(), Refusal<Fault>> {
-        if let Some(refusal) = measure_refusal(B::Chart::class(register)) {
-            return Err(refusal);
-        }
-        match self.bus.measure(register, word) {
-            Ok(()) => Ok(()),
-            Err(refusal) => Err(at_register(refusal, register)),
-        }
+        check_measure(B::Chart::class(register))?;
+        let register = Register { number: register };
+        self.bus
+            .measure(register.number, word)
+            .map_err(|refusal| register.locate(refusal))
     }
 
     fn down(&mut self) {

@@ -1,10 +1,8 @@
 -- What a call on a port is refused for before anything is sent, the first in order. Assumes nothing.
-use Rattle.std.specs.Prelude.{ℕ, zero, suc, ◌+◌, Bool, cond, ◌||◌, [], Some, None, Option, ◌==◌, nat_lt}
-use Rattle.chart.specs.Replies.{Reply, refused, told, fault_values}
+use Rattle.std.specs.Prelude.{ℕ, zero, suc, ◌+◌, Bool, cond, ◌||◌, [], Some, Option, ◌==◌, nat_lt}
+use Rattle.chart.specs.Replies.{Reply, refused}
 use Rattle.chart.specs.declared.class.Class.{Class}
 use Rattle.chart.specs.declared.class.Class.TheVariants.{Absent, Setting, Live}
-use Rattle.chart.specs.declared.refusal.Fault.{Fault}
-use Rattle.chart.specs.declared.refusal.Refusal.{Refusal}
 use Rattle.bus.specs.Checks.{asleep}
 
 -- A port that keeps its settings answers for them with the supply off too; a live register is the chip's alone.
@@ -34,7 +32,3 @@ worst class first (suc n) = worse (worst class first n) (class (first + n))
 -- a run of n words is refused as an update of its worst register is
 abbrev pub run_check : Bool → (ℕ → Class) → ℕ → ℕ → Bool → Option Reply
 run_check keeps class first n on = cond (n == 0 || nat_lt 16 n) (Some (refused 1 [])) (update_check keeps (worst class first n) on)
-
-abbrev pub port_checked : Option (Refusal Fault) → Option Reply
-port_checked (Some e) = Some (told fault_values e)
-port_checked None = None

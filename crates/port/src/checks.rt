@@ -1,39 +1,61 @@
 // What a call on a port is refused for before anything is sent, in the order in which refusals win.
-ghost use Rattle.std.specs.Prelude.{◌≡◌, ◌+◌, ◌≤◌, ◌||◌};
-ghost use Rattle.bus.specs.Checks.{asleep, measure_check};
-ghost use Rattle.port.specs.Checks.{port_checked, read_check, update_check, run_check, worse, worst};
+ghost use Rattle.std.specs.Prelude.{◌≡◌, ◌-◌, ◌||◌};
+ghost use Rattle.chart.specs.Replies.{fault_values};
+ghost use Rattle.bus.specs.Checks.{asleep, checked};
+ghost use Rattle.port.specs.Checks.{read_check, update_check, run_check, worse, worst};
 
 use chart::class::{Chart, Class};
 use chart::refusal::{Fault, Refusal};
+use std::ops::Range;
 
-// A setting is at hand where the port keeps its settings, or the supply is on.
-fn setting_refusal(keeps: bool, supply: bool) -> Option<Refusal<Fault>>
-    ensures { port_checked result ≡ asleep (keeps || supply) }
+// What a port can reach now: whether it knows its settings by itself, and whether the supply is on.
+#[derive(Debug, Clone, Copy, PartialEq, Eq)]
+pub struct Access {
+    pub keeps: bool,
+    pub supply: bool,
+}
+
+impl Access {
+    // A setting is at hand where the port keeps its settings, or the supply is on; a live register is the chip's alone.
+    pub fn check_read(self, class: Class) -> Result<(), Refusal<Fault>>
+        ensures { checked fault_values result ≡ read_check self.keeps class self.supply }
+    {
+        match class {
+            Class::Absent => Err(Refusal::Register),
+            Class::Setting => check_at_hand(self.keeps || self.supply),
+            Class::Live => check_at_hand(self.supply),
+        }
+    }
+
+    pub fn check_update(self, class: Class) -> Result<(), Refusal<Fault>>
+        ensures { checked fault_values result ≡ update_check self.keeps class self.supply }
+    {
+        match class {
+            Class::Absent => Err(Refusal::Register),
+            Class::Setting => check_at_hand(self.keeps || self.supply),
+            Class::Live => Err(Refusal::Live),
+        }
+    }
+
+    // A run is refused as an update of its worst register is.
+    pub fn check_run<C: Chart>(self, first: u16, count: usize) -> Result<(), Refusal<Fault>>
+        ensures { checked fault_values result ≡ run_check self.keeps C.Chart.classed first count self.supply }
+    {
+        if count == 0 || count > 16 {
+            return Err(Refusal::Length);
+        }
+        let first = usize::from(first);
+        self.check_update(worst_class::<C>(first..first + count))
+    }
+}
+
+fn check_at_hand(at_hand: bool) -> Result<(), Refusal<Fault>>
+    ensures { checked fault_values result ≡ asleep at_hand }
 {
-    if keeps || supply {
-        None
+    if at_hand {
+        Ok(())
     } else {
-        Some(Refusal::Asleep)
-    }
-}
-
-pub fn read_refusal(keeps: bool, class: Class, supply: bool) -> Option<Refusal<Fault>>
-    ensures { port_checked result ≡ read_check keeps class supply }
-{
-    match class {
-        Class::Absent => Some(Refusal::Register),
-        Class::Setting => setting_refusal(keeps, supply),
-        Class::Live => setting_refusal(false, supply),
-    }
-}
-
-pub fn update_refusal(keeps: bool, class: Class, supply: bool) -> Option<Refusal<Fault>>
-    ensures { port_checked result ≡ update_check keeps class supply }
-{
-    match class {
-        Class::Absent => Some(Refusal::Register),
-        Class::Setting => setting_refusal(keeps, supply),
-        Class::Live => Some(Refusal::Live),
+        Err(Refusal::Asleep)
     }
 }
 
@@ -41,13 +63,11 @@ pub fn update_refusal(keeps: bool, class: Class, supply: bool) -> Option<Refusal
 fn class_of<C: Chart>(register: usize) -> Class
     ensures { result ≡ C.Chart.classed register }
 {
-    match u16::try_from(register) {
-        Ok(register) => C::class(register),
-        Err(_) => Class::Absent,
-    }
+    // A closure, since `C::class` alone, a method of a bound, is not yet covered as an argument.
+    u16::try_from(register).map_or(Class::Absent, |register| C::class(register))
 }
 
-// Of two classes the one whose refusal wins.
+// Of two classes the one whose refusal wins. No derived order says so: a chart's classes have none but this.
 fn worse_of(a: Class, b: Class) -> Class
     ensures { result ≡ worse a b }
 {
@@ -58,38 +78,11 @@ fn worse_of(a: Class, b: Class) -> Class
     }
 }
 
-fn worst_class<C: Chart>(first: u16, count: usize) -> Class
-    requires { count ≤ 16 }
-    ensures { result ≡ worst C.Chart.classed first count }
+fn worst_class<C: Chart>(registers: Range<usize>) -> Class
+    ensures { result ≡ worst C.Chart.classed registers.start (registers.end - registers.start) }
 {
-    let mut found = Class::Setting;
-    for i in 0..count {
-        found = worse_of(found, class_of::<C>(first as usize + i));
-    }
-    found
-}
-
-// A run is refused as an update of its worst register is.
-pub fn run_refusal<C: Chart>(
-    keeps: bool,
-    first: u16,
-    count: usize,
-    supply: bool,
-) -> Option<Refusal<Fault>>
-    ensures { port_checked result ≡ run_check keeps C.Chart.classed first count supply }
-{
-    if count == 0 || count > 16 {
-        return Some(Refusal::Length);
-    }
-    update_refusal(keeps, worst_class::<C>(first, count), supply)
-}
-
-pub fn measure_refusal(class: Class) -> Option<Refusal<Fault>>
-    ensures { port_checked result ≡ measure_check class }
-{
-    match class {
-        Class::Absent => Some(Refusal::Register),
-        Class::Setting => Some(Refusal::Setting),
-        Class::Live => None,
-    }
+    // A closure, since `class_of::<C>` alone, a function over a bound, is not yet covered as an argument.
+    registers
+        .map(|register| class_of::<C>(register))
+        .fold(Class::Setting, worse_of)
 }

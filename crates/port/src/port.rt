@@ -7,6 +7,7 @@ ghost use Rattle.bus.specs.Chips.{Chip};
 ghost use Rattle.port.specs.Views.{view_of};
 ghost use Rattle.port.specs.Meaning.{PortSteps, PortMeaning};
 
+use crate::checks::Access;
 use bus::bus::Bus;
 use chart::class::Chart;
 use chart::patch::Patch;
@@ -20,7 +21,9 @@ pub trait Port {
     type Bus: Bus<Chart = Self::Chart>;
 
     // Whether it knows its settings by itself, so that they outlive the supply.
-    ghost keeps: { Bool };
+    const KEEPS: bool;
+
+    ghost KEEPS: { Bool };
 
     // All that the port and what is below it remember.
     ghost Model: { Type 0 };
@@ -41,9 +44,6 @@ pub trait Port {
 
     ghost New: { (ℕ → ℕ) → Model → Type 0 };
 
-    fn keeps() -> bool
-        ensures { result ≡ keeps };
-
     // The bus at the bottom, for looking.
     fn bus(&self) -> &Self::Bus
         ensures chip { Self.Bus.Bus.chip (Self.Bus.Bus.model result.now) ≡ chip (model self.now) }
@@ -52,6 +52,17 @@ pub trait Port {
     // Whether the supply is on.
     fn supply(&self) -> bool
         ensures { result ≡ (chip (model self.now)).supply };
+
+    // What it can reach now, by which its calls are checked.
+    fn access(&self) -> Access
+        ensures keeps { result.keeps ≡ KEEPS }
+        ensures supply { result.supply ≡ (chip (model self.now)).supply }
+    {
+        Access {
+            keeps: Self::KEEPS,
+            supply: self.supply(),
+        }
+    }
 
     // A setting as it is shown, or a live word as the chip has it.
     fn read(&mut self, register: u16) -> Result<u16, Refusal<Fault>>
@@ -76,5 +87,5 @@ pub trait Port {
     fn up(&mut self)
         ensures { model self.new ≡ (steps Self.Chart.Chart.classed Self.Chart.Chart.resets).up (model self.old) };
 
-    ghost meaning: { PortMeaning keeps Self.Chart.Chart.classed Self.Chart.Chart.resets (steps Self.Chart.Chart.classed Self.Chart.Chart.resets) (λ m. view_of (shown m) (chip m)) Sound (New Self.Chart.Chart.resets) };
+    ghost meaning: { PortMeaning KEEPS Self.Chart.Chart.classed Self.Chart.Chart.resets (steps Self.Chart.Chart.classed Self.Chart.Chart.resets) (λ m. view_of (shown m) (chip m)) Sound (New Self.Chart.Chart.resets) };
 }
