@@ -7,7 +7,7 @@ use crate::class::{Chart, Class};
 pub struct Head;
 
 impl Chart for Head {
-    ghost counted = { 128 };
+    ghost COUNT = { 128 };
 
     ghost classed = { head_class };
 
@@ -15,9 +15,7 @@ impl Chart for Head {
 
     ghost rules = { Prim.search rules };
 
-    fn count() -> u16 {
-        128
-    }
+    const COUNT: u16 = 128;
 
     fn class(register: u16) -> Class {
         match register {
@@ -39,7 +37,7 @@ impl Chart for Head {
 pub struct Valve;
 
 impl Chart for Valve {
-    ghost counted = { 32 };
+    ghost COUNT = { 32 };
 
     ghost classed = { valve_class };
 
@@ -47,9 +45,7 @@ impl Chart for Valve {
 
     ghost rules = { Prim.search rules };
 
-    fn count() -> u16 {
-        32
-    }
+    const COUNT: u16 = 32;
 
     fn class(register: u16) -> Class {
         match register {

@@ -4,7 +4,7 @@ ghost use Rattle.chart.specs.declared.class.Class.{Class};
 ghost use Rattle.chart.specs.Rules.{ChartRules};
 
 // What a number names: nothing, a setting that its user writes, or a live word that the chip writes.
-#[derive(Clone, Copy)]
+#[derive(Debug, Clone, Copy, PartialEq, Eq)]
 pub enum Class {
     Absent,
     Setting,
@@ -12,15 +12,14 @@ pub enum Class {
 }
 
 pub trait Chart {
-    ghost counted: { ℕ };
+    ghost COUNT: { ℕ };
 
     ghost classed: { ℕ → Class };
 
     ghost resets: { ℕ → ℕ };
 
     // All registers have numbers below the count.
-    fn count() -> u16
-        ensures { result ≡ counted };
+    const COUNT: u16;
 
     fn class(register: u16) -> Class
         ensures { result ≡ classed register };
@@ -29,5 +28,5 @@ pub trait Chart {
     fn reset(register: u16) -> u16
         ensures { result ≡ resets register };
 
-    ghost rules: { ChartRules counted classed resets };
+    ghost rules: { ChartRules COUNT classed resets };
 }

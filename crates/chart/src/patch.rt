@@ -2,7 +2,7 @@
 ghost use Rattle.std.specs.Prelude.{◌≡◌};
 ghost use Rattle.chart.specs.Patch.{acted, joined, idle, complete, ActsByBits, JoinActs, Idles, Completes};
 
-#[derive(Clone, Copy)]
+#[derive(Debug, Clone, Copy, PartialEq, Eq)]
 pub struct Patch {
     pub mask: u16,
     pub bits: u16,

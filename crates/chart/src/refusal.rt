@@ -1,6 +1,6 @@
 // How a call says no: eight refusals, each with its number.
 ghost use Rattle.std.specs.Prelude.{◌≡◌, ℕ, List, []};
-ghost use Rattle.chart.specs.Replies.{told, cause_number, errand_number, failure_values, fault_values};
+ghost use Rattle.chart.specs.Replies.{told, OnLine, Mapped, cause_number, errand_number, failure_values, fault_values};
 
 // What a failed transfer tells, as numbers: the values of its refusal.
 pub trait Tells {
@@ -8,7 +8,7 @@ pub trait Tells {
 }
 
 // `F` is what a failed transfer tells: on a bus a `Failure`, on a port a `Fault`.
-#[derive(Clone, Copy)]
+#[derive(Debug, Clone, Copy, PartialEq, Eq)]
 pub enum Refusal<F> {
     // a burst or a run of no words or of more than 16
     Length,
@@ -43,28 +43,42 @@ impl<F> Refusal<F> {
             Refusal::Memory => 8,
         }
     }
+
+    // The same refusal, where a failed transfer tells something else.
+    pub fn map<G, M: FnOnce(F) -> G>(self, f: M) -> Refusal<G>
+        requires { OnLine self (M.pre f) }
+        ensures { Mapped self (M.post f) result }
+    {
+        match self {
+            Refusal::Length => Refusal::Length,
+            Refusal::Register => Refusal::Register,
+            Refusal::Live => Refusal::Live,
+            Refusal::Setting => Refusal::Setting,
+            Refusal::Asleep => Refusal::Asleep,
+            Refusal::Line(told) => Refusal::Line(f(told)),
+            Refusal::Address => Refusal::Address,
+            Refusal::Memory => Refusal::Memory,
+        }
+    }
 }
 
 // Why a transfer failed: which kind of byte was not acknowledged.
-#[derive(Clone, Copy)]
+#[derive(Debug, Clone, Copy, PartialEq, Eq)]
 pub enum Cause {
-    Address,
-    Data,
+    Address = 1,
+    Data = 2,
 }
 
 impl Cause {
     pub fn number(self) -> u8
         ensures { result ≡ cause_number self }
     {
-        match self {
-            Cause::Address => 1,
-            Cause::Data => 2,
-        }
+        self as u8
     }
 }
 
 // What a failed transfer on a bus tells: why, and how many words of a put the chip took before it.
-#[derive(Clone, Copy)]
+#[derive(Debug, Clone, Copy, PartialEq, Eq)]
 pub struct Failure {
     pub cause: Cause,
     pub stored: u8,
@@ -75,25 +89,22 @@ impl Tells for Failure {
 }
 
 // On whose behalf a port was sending when a transfer failed: what the call asked for, or what was owed from before.
-#[derive(Clone, Copy)]
+#[derive(Debug, Clone, Copy, PartialEq, Eq)]
 pub enum Errand {
-    Asked,
-    Owed,
+    Asked = 0,
+    Owed = 1,
 }
 
 impl Errand {
     pub fn number(self) -> u8
         ensures { result ≡ errand_number self }
     {
-        match self {
-            Errand::Asked => 0,
-            Errand::Owed => 1,
-        }
+        self as u8
     }
 }
 
 // What a failed transfer on a port tells: why, the register that it did not reach, and on what errand it was.
-#[derive(Clone, Copy)]
+#[derive(Debug, Clone, Copy, PartialEq, Eq)]
 pub struct Fault {
     pub cause: Cause,
     pub register: u16,
