@@ -3,3 +3,4 @@ mod Digiting
 mod Listing
 mod Drafting
 mod Reading
+pub mod Hexing
