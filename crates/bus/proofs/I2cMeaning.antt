@@ -1,16 +1,14 @@
 -- The I2C bus has the meaning of a bus. Assumes nothing.
-use Rattle.std.proofs.Common.{◌≡◌, ℕ, ◌+◌, ◌-◌, ◌*◌, ◌/◌, ◌<◌, ◌≤◌, Bool, true, false, cond, List, [], ◌∷◌, length, take, None, refl, ap, ◌∙◌, ap₂, inl, inr, ⊎_elim, arith}
+use Rattle.std.proofs.Common.{◌≡◌, ℕ, ◌+◌, ◌-◌, ◌*◌, ◌/◌, ◌<◌, ◌≤◌, Bool, List, length, take, None, refl, ap, inl, inr, ⊎_elim, arith}
 use Rattle.std.proofs.lemmas.List.{take_all}
 use Rattle.std.proofs.lemmas.Bool.{cases_Bool}
 use Rattle.std.proofs.lemmas.Bool.Decides.{nat_tests}
 use Rattle.chart.specs.declared.class.Class.{Class}
-use Rattle.chart.specs.Replies.{Reply, accepted, refused}
 use Rattle.chart.specs.Rules.{ChartRules}
-use Rattle.chip.specs.Words.{loaded, rising, all_stored, Fit}
+use Rattle.chip.specs.Words.{loaded, Fit}
 use Rattle.chip.proofs.Soundness.{take_fits, burst_sound, fresh_page, fresh_sound}
 use Rattle.wire.specs.Frames.{good, whole}
 use Rattle.wire.proofs.Effects.{put_words, get_words}
-use Rattle.bus.specs.Chips.{Chip}
 use Rattle.bus.specs.Checks.{get_check, put_check, measure_check}
 use Rattle.bus.specs.Meaning.{BusMeaning, Got, Put}
 use Rattle.bus.specs.I2cs.{I2cModel, first_mark, get_sent, put_sent, put_cause, get_cause, i2c_steps, i2c_chip, I2cSound, I2cNew}
@@ -20,59 +18,21 @@ use Rattle.bus.proofs.Settled.{refused_by, either_way, measured_sound}
 put_bounds : (raw n : ℕ) (on : Bool) → put_check raw n on ≡ None → (0 < n) × (raw + n ≤ 64)
 put_bounds raw n on e = grind (arith, nat_tests)
 
--- the chip with these words after a transfer that did or did not fail
-after : I2cModel → Bool → List ℕ → Chip
-after m fine ws = record { words = ws; supply = m.supply; failed = cond fine m.line.failed (m.line.failed + 1) }
-
 get_means : (m : I2cModel) (raw : ℕ) → Got (i2c_chip m) raw (get_sent m raw).0 (i2c_chip (get_sent m raw).1)
-unfolding after
-get_means m raw = ⊎_elim (λ g. inl (reply g, chip g)) (λ g. inr (get_cause mark, reply g, chip g)) (cases_Bool (good mark 3))
-  where
-    mark : ℕ
-    mark = first_mark m.line.marks
-
-    word : ℕ
-    word = loaded m.wire.words raw
-
-    fate : Bool → Reply
-    fate fine = cond fine (accepted (word ∷ [])) (refused 6 (get_cause mark ∷ 0 ∷ []))
-
-    reply : {b : Bool} → good mark 3 ≡ b → (get_sent m raw).0 ≡ fate b
-    reply g = ap fate g
-
-    chip : {b : Bool} → good mark 3 ≡ b → i2c_chip (get_sent m raw).1 ≡ after m b m.wire.words
-    chip g = ap₂ (after m) g (get_words m.wire raw word mark)
+get_means m raw =
+    let mark = first_mark m.line.marks in
+    let same = get_words m.wire raw (loaded m.wire.words raw) mark in
+    ⊎_elim (λ g. inl (grind arith, grind arith)) (λ g. inr (get_cause mark, grind arith, grind arith)) (cases_Bool (good mark 3))
 
 put_means : (m : I2cModel) (raw : ℕ) (ws : List ℕ) → 0 < length ws → raw + length ws ≤ 64 → Put (i2c_chip m) raw ws (put_sent m raw ws).0 (i2c_chip (put_sent m raw ws).1)
-unfolding after
-put_means m raw ws some fits = ⊎_elim
-    (λ g. inl (reply g, chip g (ap (λ k. take k ws) (all g) ∙ take_all n ws (omega arith))))
-    (λ g. inr (put_cause mark, (mark - 3) / 2, few g, reply g, chip g (ap (λ k. take k ws) (part g))))
+put_means m raw ws some fits =
+    let mark = first_mark m.line.marks in
+    let n = length ws in
+    let stored = put_words m.wire raw mark ws fits in
+    ⊎_elim
+    (λ g. let all = take_all n ws (omega arith) in inl (grind arith, grind arith))
+    (λ g. let few : (mark - 3) / 2 < n = grind (arith, nat_tests) in inr (put_cause mark, (mark - 3) / 2, few, grind arith, grind arith))
     (cases_Bool (good mark (2 + 2 * n)))
-  where
-    mark : ℕ
-    mark = first_mark m.line.marks
-
-    n : ℕ
-    n = length ws
-
-    fate : Bool → Reply
-    fate fine = cond fine (accepted []) (refused 6 (put_cause mark ∷ (mark - 3) / 2 ∷ []))
-
-    all : good mark (2 + 2 * n) ≡ true → whole mark n ≡ n
-    all g = rw g
-
-    part : good mark (2 + 2 * n) ≡ false → whole mark n ≡ (mark - 3) / 2
-    part g = rw g
-
-    few : good mark (2 + 2 * n) ≡ false → (mark - 3) / 2 < n
-    few g = let low : mark ≤ 2 + 2 * n = grind (arith, nat_tests) in omega arith
-
-    reply : {b : Bool} → good mark (2 + 2 * n) ≡ b → (put_sent m raw ws).0 ≡ fate b
-    reply g = ap fate g
-
-    chip : {b : Bool} {vs : List ℕ} → good mark (2 + 2 * n) ≡ b → take (whole mark n) ws ≡ vs → i2c_chip (put_sent m raw ws).1 ≡ after m b (all_stored m.wire.words (rising raw vs))
-    chip g e = ap₂ (after m) g (put_words m.wire raw mark ws fits ∙ ap (λ vs. all_stored m.wire.words (rising raw vs)) e)
 
 put_keeps : (m : I2cModel) (raw : ℕ) (ws : List ℕ) → I2cSound m → Fit ws → raw + length ws ≤ 64 → I2cSound (put_sent m raw ws).1
 put_keeps m raw ws sound fit fits =

@@ -1,5 +1,5 @@
 -- What is refused before anything is sent, the first in order. Assumes nothing.
-use Rattle.std.specs.Prelude.{ℕ, ◌+◌, Bool, cond, ◌||◌, [], Some, None, Option, ◌==◌, nat_lt, List, Ok, Err, Result}
+use Rattle.std.specs.Prelude.{ℕ, ◌+◌, Bool, if◌then◌else◌, ◌||◌, [], Some, None, Option, ◌==◌, nat_lt, List, Ok, Err, Result}
 use Rattle.chart.specs.Replies.{Reply, refused, told}
 use Rattle.chart.specs.declared.class.Class.{Class}
 use Rattle.chart.specs.declared.class.Class.TheVariants.{Absent, Setting, Live}
@@ -7,15 +7,15 @@ use Rattle.chart.specs.declared.refusal.Refusal.{Refusal}
 
 -- the supply is off
 abbrev pub asleep : Bool → Option Reply
-asleep supply = cond supply None (Some (refused 5 []))
+asleep supply = if supply then None else Some (refused 5 [])
 
 abbrev pub get_check : ℕ → Bool → Option Reply
-get_check raw supply = cond (nat_lt 63 raw) (Some (refused 2 [])) (asleep supply)
+get_check raw supply = if nat_lt 63 raw then Some (refused 2 []) else asleep supply
 
 -- a put of n words
 abbrev pub put_check : ℕ → ℕ → Bool → Option Reply
 put_check raw n supply =
-    cond (n == 0 || nat_lt 16 n) (Some (refused 1 [])) (cond (nat_lt 64 (raw + n)) (Some (refused 2 [])) (asleep supply))
+    if n == 0 || nat_lt 16 n then Some (refused 1 []) else (if nat_lt 64 (raw + n) then Some (refused 2 []) else asleep supply)
 
 abbrev pub measure_check : Class → Option Reply
 measure_check Absent = Some (refused 2 [])

@@ -22,7 +22,7 @@ window_steps class reset = record {
   put = λ m raw ws. unless (put_check raw (length ws) m.supply) m (accepted [], window_of (all_stored m.words (rising raw ws)) m.supply);
   measure = λ m n w. unless (measure_check (class n)) m (accepted [], window_of (words_measured m.supply n w m.words) m.supply);
   down = λ m. window_of (fresh reset (length m.words)) false;
-  up = λ m. window_of m.words true;
+  up = λ m. record m { supply = true };
 }
 
 abbrev pub window_chip : WindowModel → Chip

@@ -32,9 +32,6 @@ pub trait Bus {
 
     ghost New: { (ℕ → ℕ) → Model → Type 0 };
 
-    // What each `impl` must prove, for every chart.
-    ghost meaning: { (count : ℕ) (class : ℕ → Class) (reset : ℕ → ℕ) → ChartRules count class reset → BusMeaning class reset (steps class reset) chip Sound (New reset) };
-
     // The word at a raw address.
     fn get(&mut self, raw: u16) -> Result<u16, Refusal<Failure>>
         ensures { (reply word_value result, model self.new) ≡ (steps Self.Chart.Chart.classed Self.Chart.Chart.resets).get (model self.old) raw };
@@ -69,4 +66,7 @@ pub trait Bus {
     // Whether an event found no room.
     fn overrun(&self) -> bool
         ensures { result ≡ (trace (model self.now)).overrun };
+
+    // What each `impl` must prove, for every chart.
+    ghost meaning: { (count : ℕ) (class : ℕ → Class) (reset : ℕ → ℕ) → ChartRules count class reset → BusMeaning class reset (steps class reset) chip Sound (New reset) };
 }

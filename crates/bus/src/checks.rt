@@ -21,9 +21,9 @@ pub fn check_get<F: Tells>(raw: u16, supply: bool) -> Result<(), Refusal<F>>
 pub fn check_put<F: Tells>(raw: u16, count: usize, supply: bool) -> Result<(), Refusal<F>>
     ensures { checked F.values result ≡ put_check raw count supply }
 {
-    if count == 0 || count > 16 {
+    if !(1..=16).contains(&count) {
         Err(Refusal::Length)
-    } else if raw as usize + count > 64 {
+    } else if usize::from(raw) + count > 64 {
         Err(Refusal::Register)
     } else if !supply {
         Err(Refusal::Asleep)

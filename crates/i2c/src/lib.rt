@@ -2,4 +2,3 @@
 
 pub mod i2c;
 pub mod line;
-pub mod marks;

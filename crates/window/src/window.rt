@@ -6,7 +6,8 @@ ghost use Rattle.bus.proofs.WindowMeaning.{window_meaning};
 ghost use Rattle.window.specs.Made.{window_model, WindowMade};
 
 use bus::bus::Bus;
-use bus::checks::{get_refusal, measure_refusal, put_refusal};
+use bus::checks::{check_get, check_measure, check_put};
+use bus::unmade::Unmade;
 use chart::class::Chart;
 use chart::refusal::{Failure, Refusal};
 use chip::memory;
@@ -21,28 +22,15 @@ pub struct Window<'a, C> {
     chart: PhantomData<C>,
 }
 
-// Memory of another size, handed back as it was.
-#[derive(Drop)]
-pub struct Unfit<'a> {
-    pub refusal: Refusal<Failure>,
-    pub words: &'a mut [u16],
-}
-
-fn fits(words: &[u16]) -> bool
-    ensures { result ≡ (length words.now == 129) }
-{
-    words.len() == memory::WORDS
-}
-
 impl<'a, C: Chart> Window<'a, C> {
-    // A new chip in this memory.
-    pub fn new(words: &'a mut [u16]) -> Result<Window<'a, C>, Unfit<'a>>
+    // A new chip in this memory; memory of another size is handed back.
+    pub fn new(words: &'a mut [u16]) -> Result<Window<'a, C>, Unmade<&'a mut [u16]>>
         ensures { WindowMade C.Chart.resets words.old result }
     {
-        if !fits(words) {
-            return Err(Unfit {
+        if words.len() != memory::WORDS {
+            return Err(Unmade {
                 refusal: Refusal::Memory,
-                words,
+                given: words,
             });
         }
         memory::reset::<C>(words);
@@ -54,23 +42,13 @@ impl<'a, C: Chart> Window<'a, C> {
     }
 }
 
-// The word at a raw address of memory that is lent to be written, and stands.
-fn load_lent(words: &mut [u16], raw: u16) -> u16
-    ensures value { result ≡ loaded words.old raw }
-    ensures same { words.new ≡ words.old }
-{
-    memory::load(words, raw)
-}
-
 // Stores words one by one.
 fn store_burst(words: &mut [u16], raw: u16, burst: &[u16])
     requires { raw + length burst.now ≤ 64 }
     ensures { words.new ≡ all_stored words.old (rising raw burst.now) }
 {
-    let mut at = raw;
-    for word in burst {
-        memory::store(words, at, *word);
-        at += 1;
+    for (at, &word) in (raw..).zip(burst) {
+        memory::store(words, at, word);
     }
 }
 
@@ -94,24 +72,20 @@ impl<'a, C: Chart> Bus for Window<'a, C> {
     ghost meaning = { window_meaning };
 
     fn get(&mut self, raw: u16) -> Result<u16, Refusal<Failure>> {
-        if let Some(refusal) = get_refusal(raw, self.supply) {
-            return Err(refusal);
-        }
-        Ok(load_lent(self.words, raw))
+        check_get(raw, self.supply)?;
+        // lent as `&mut`, since after a `&` out of this field nothing is known of the words
+        let words = &mut *self.words;
+        Ok(memory::load(words, raw))
     }
 
     fn put(&mut self, raw: u16, words: &[u16]) -> Result<(), Refusal<Failure>> {
-        if let Some(refusal) = put_refusal(raw, words.len(), self.supply) {
-            return Err(refusal);
-        }
+        check_put(raw, words.len(), self.supply)?;
         store_burst(self.words, raw, words);
         Ok(())
     }
 
     fn measure(&mut self, register: u16, word: u16) -> Result<(), Refusal<Failure>> {
-        if let Some(refusal) = measure_refusal::<C>(register) {
-            return Err(refusal);
-        }
+        check_measure(C::class(register))?;
         if self.supply {
             memory::set_register(self.words, register, word);
         }

@@ -1,4 +1,3 @@
-pub mod Sending
 pub mod Passing
 pub mod Fetching
 pub mod Recovering

@@ -1,12 +1,11 @@
 -- A trace with room for what passes leaves nothing out. Assumes nothing.
-use Rattle.std.proofs.Common.{◌≡◌, ℕ, suc, ◌+◌, ◌-◌, ◌*◌, ◌/◌, ◌%◌, ◌≤◌, true, false, eqb, ltb, List, [], ◌∷◌, length, arith}
+use Rattle.std.proofs.Common.{◌≡◌, ℕ, suc, ◌+◌, ◌-◌, ◌*◌, ◌≤◌, true, false, ltb, List, [], ◌∷◌, length, arith}
 use Rattle.std.proofs.lemmas.List.{length-append}
-use Rattle.std.proofs.lemmas.Bool.{lt-ltb, cond_both}
+use Rattle.std.proofs.lemmas.Bool.{lt-ltb}
+use Rattle.std.proofs.lemmas.Bool.Decides.{nat_tests}
 use Rattle.i2c_target.specs.declared.event.Event.{Event}
-use Rattle.i2c_target.specs.declared.event.Event.TheVariants.{Byte}
-use Rattle.i2c_target.specs.Targets.{write_byte, read_byte}
 use Rattle.i2c_target.specs.Traces.{Traced, noted}
-use Rattle.wire.specs.Frames.{Wired, passed, carried, sent, good, put_bytes, put_frame, reading, get_frame}
+use Rattle.wire.specs.Frames.{Wired, passed, carried, sent, put_bytes, put_frame, reading, get_frame}
 use Rattle.wire.proofs.Recovering.{length-put_bytes}
 
 -- nothing was left out, and n more events find room
@@ -24,9 +23,7 @@ carried_room (e ∷ es) w n r = carried_room es (passed e w) n (noted_room e w.t
 
 sent_length : (bs : List ℕ) (mark : ℕ) → length (sent bs mark) ≤ length bs
 sent_length [] mark = omega arith
-sent_length (b ∷ bs) mark =
-    cond_both (eqb mark 1) (Byte b false ∷ []) (Byte b true ∷ sent bs (mark - 1)) (λ es. length es ≤ suc (length bs))
-    (λ _. omega arith) (λ _. omega (arith, sent_length bs (mark - 1)))
+sent_length (b ∷ bs) mark = let rest = sent_length bs (mark - 1) in grind (arith, nat_tests)
 
 pub put_length : (a raw : ℕ) (ws : List ℕ) (mark : ℕ) → length (put_frame a raw ws mark) ≤ 4 + 2 * length ws
 put_length a raw ws mark =
@@ -35,13 +32,7 @@ put_length a raw ws mark =
     simp length-append (omega arith)
 
 reading_length : (a x mark : ℕ) → length (reading a x mark) ≤ 4
-reading_length a x mark =
-    let few = sent_length (read_byte a ∷ []) mark in
-    let answer = cond_both (good mark 1) (Byte (x / 256) true ∷ Byte (x % 256) false ∷ []) [] (λ es. length es ≤ 2) (λ _. omega arith) (λ _. omega arith) in
-    simp length-append (omega arith)
+reading_length a x mark = grind (arith, nat_tests, length-append)
 
 pub get_length : (a raw x mark : ℕ) → length (get_frame a raw x mark) ≤ 8
-get_length a raw x mark =
-    let few = sent_length (write_byte a ∷ raw ∷ []) mark in
-    let second = cond_both (good mark 2) (reading a x (mark - 2)) [] (λ es. length es ≤ 4) (λ _. reading_length a x (mark - 2)) (λ _. omega arith) in
-    simp length-append (omega arith)
+get_length a raw x mark = let second = reading_length a x (mark - 2) in grind (arith, nat_tests, length-append)

@@ -1,12 +1,13 @@
 -- The frames of the I2C-bus, event by event, and how they pass. Assumes nothing.
-use Rattle.std.specs.Prelude.{◌≡◌, ℕ, ◌+◌, ◌-◌, ◌*◌, ◌/◌, ◌%◌, ◌<◌, ◌≤◌, Bool, true, false, cond, ◌||◌, List, [], ◌∷◌, ◌++◌, length, take, ◌==◌, nat_lt, slice_set}
+use Rattle.std.specs.Prelude.{◌≡◌, ℕ, ◌+◌, ◌-◌, ◌*◌, ◌/◌, ◌%◌, ◌<◌, ◌≤◌, Bool, true, false, if◌then◌else◌, ◌||◌, List, [], ◌∷◌, ◌++◌, length, take, Ok, Err, Result, ◌==◌, nat_lt, slice_set}
+use Rattle.chart.specs.declared.refusal.Cause.{Cause}
+use Rattle.chart.specs.declared.refusal.Cause.TheVariants.{Address, Data}
 use Rattle.chip.specs.Words.{loaded, rising, fresh}
 use Rattle.i2c_target.specs.Targets.{write_byte, read_byte, new_target, moved, stores, written}
-use Rattle.i2c_target.specs.Traces.{Traced, traced, noted}
+use Rattle.i2c_target.specs.Traces.{Traced, noted}
 use Rattle.i2c_target.specs.declared.event.Event.{Event}
 use Rattle.i2c_target.specs.declared.event.Event.TheVariants.{Start, Byte, Stop}
 use Rattle.i2c_target.specs.declared.target.Target.{Target}
-use Rattle.wire.specs.declared.wire.Wire.{Wire}
 
 -- the bytes of words, each high byte first
 abbrev pub word_bytes : List ℕ → List ℕ
@@ -17,11 +18,26 @@ word_bytes (w ∷ ws) = w / 256 ∷ w % 256 ∷ word_bytes ws
 abbrev pub good : ℕ → ℕ → Bool
 good mark n = mark == 0 || nat_lt n mark
 
+-- What a transfer under a mark answers in which the target must acknowledge n bytes: v, or why it failed.
+abbrev pub answer : {T : Type 0} → ℕ → ℕ → T → Cause → Result T Cause
+answer mark n v cause = if good mark n then Ok v else Err cause
+
+-- A put has an address in its first byte, a get in its first and its third.
+abbrev pub cause_of_put : ℕ → Cause
+cause_of_put mark = if mark == 1 then Address else Data
+
+abbrev pub cause_of_get : ℕ → Cause
+cause_of_get mark = if mark == 2 then Data else Address
+
 -- Bytes to the target: it acknowledges each but the one that the mark names, by counting from 1,
 -- and no byte is sent after that one.
 abbrev pub sent : List ℕ → ℕ → List Event
 sent [] mark = []
-sent (b ∷ bs) mark = cond (mark == 1) (Byte b false ∷ []) (Byte b true ∷ sent bs (mark - 1))
+sent (b ∷ bs) mark = if mark == 1 then Byte b false ∷ [] else (Byte b true ∷ sent bs (mark - 1))
+
+-- the bytes that lead the target to a raw address
+abbrev pub head_bytes : ℕ → ℕ → List ℕ
+head_bytes a raw = write_byte a ∷ raw ∷ []
 
 -- the bytes of a put: address, raw address, words
 abbrev pub put_bytes : ℕ → ℕ → List ℕ → List ℕ
@@ -35,11 +51,11 @@ put_frame a raw ws mark = Start ∷ (sent (put_bytes a raw ws) mark ++ (Stop ∷
 -- bytes, of which the controller acknowledges the first only
 abbrev pub reading : ℕ → ℕ → ℕ → List Event
 reading a w mark =
-    Start ∷ (sent (read_byte a ∷ []) mark ++ cond (good mark 1) (Byte (w / 256) true ∷ Byte (w % 256) false ∷ []) [])
+    Start ∷ (sent (read_byte a ∷ []) mark ++ (if good mark 1 then Byte (w / 256) true ∷ Byte (w % 256) false ∷ [] else []))
 
 -- a get up to its last byte: start, address, raw address, and if both are acknowledged the second part
 abbrev pub fetching : ℕ → ℕ → ℕ → ℕ → List Event
-fetching a raw w mark = Start ∷ (sent (write_byte a ∷ raw ∷ []) mark ++ cond (good mark 2) (reading a w (mark - 2)) [])
+fetching a raw w mark = Start ∷ (sent (write_byte a ∷ raw ∷ []) mark ++ (if good mark 2 then reading a w (mark - 2) else []))
 
 -- a get that delivers the word w
 abbrev pub get_frame : ℕ → ℕ → ℕ → ℕ → List Event
@@ -54,9 +70,6 @@ pub record Wired : Type 0 where
 abbrev pub made_of : Target → List ℕ → Traced → Wired
 made_of t ws tr = record { target = t; words = ws; trace = tr }
 
-abbrev pub wired : Wire → Wired
-wired w = made_of w.target w.words (traced w.trace)
-
 -- the address of the target, and the word that it has at a raw address
 abbrev pub own : Wired → ℕ
 own w = w.target.address
@@ -68,7 +81,7 @@ abbrev pub new_wired : (ℕ → ℕ) → ℕ → Traced → Wired
 new_wired reset a tr = made_of (new_target a) (fresh reset 129) tr
 
 abbrev pub with_register : ℕ → ℕ → Wired → Wired
-with_register n v w = made_of w.target (slice_set w.words n v) w.trace
+with_register n v w = record w { words = slice_set w.words n v }
 
 -- one event passes: the target hears it, and it is traced
 abbrev pub passed : Event → Wired → Wired
@@ -86,14 +99,14 @@ caught (e ∷ es) t = stores e t ++ caught es (moved e t)
 
 -- of n words, those whose low byte was acknowledged
 abbrev pub whole : ℕ → ℕ → ℕ
-whole mark n = cond (good mark (2 + 2 * n)) n ((mark - 3) / 2)
+whole mark n = if good mark (2 + 2 * n) then n else ((mark - 3) / 2)
 
 -- The chip's end recovers what the controller's end put in: of all targets, in whatever state, the one
 -- that has the address stores the words, from the raw address upwards, and the others store nothing.
 abbrev pub Recovered : ℕ → ℕ → List ℕ → ℕ → Type 0
 Recovered a raw ws mark =
     (t : Target) → a < 128 → t.address < 128 → raw + length ws ≤ 64
-    → caught (put_frame a raw ws mark) t ≡ cond (t.address == a) (rising raw (take (whole mark (length ws)) ws)) []
+    → caught (put_frame a raw ws mark) t ≡ (if t.address == a then rising raw (take (whole mark (length ws)) ws) else [])
 
 -- A get stores nothing in any target, whatever its state and its address.
 abbrev pub Untouched : ℕ → ℕ → ℕ → ℕ → Type 0

@@ -1,15 +1,17 @@
 // The controller's end of the wire, and what passes to the chip at the other end.
-ghost use Rattle.std.specs.Prelude.{◌≡◌, ◌+◌, ◌*◌, true, false, length, if◌then◌else◌, Some, None};
+ghost use Rattle.std.specs.Prelude.{◌≡◌, ◌+◌, ◌*◌, true, false, length};
 ghost use Rattle.i2c_target.specs.declared.event.Event.TheVariants.{Byte};
 ghost use Rattle.i2c_target.specs.Targets.{given};
-ghost use Rattle.wire.specs.Frames.{wired, own, pointed_at, passed, carried, sent, good, word_bytes, put_bytes, put_frame, fetching, get_frame, Recovered, Untouched, new_wired, with_register};
+ghost use Rattle.wire.specs.Frames.{own, pointed_at, passed, carried, sent, answer, cause_of_put, cause_of_get, word_bytes, put_bytes, head_bytes, put_frame, fetching, get_frame, Recovered, Untouched, new_wired, with_register};
 ghost use Rattle.i2c_target.specs.Traces.{traced};
 
 use chart::class::Chart;
+use chart::refusal::Cause;
 use chip::memory;
 use i2c_target::event::Event;
 use i2c_target::target::{Target, bytes_of, read_byte, word_of, write_byte};
 use i2c_target::trace::Trace;
+use std::marker::Model;
 
 #[derive(Drop)]
 pub struct Wire {
@@ -18,10 +20,19 @@ pub struct Wire {
     trace: Trace,
 }
 
+impl Model for Wire {
+    ghost use Rattle.i2c_target.specs.Traces.{traced};
+    ghost use Rattle.wire.specs.Frames.{Wired, made_of};
+
+    ghost Value = { Wired };
+
+    ghost view = { λ w. made_of w.target w.words (traced w.trace) };
+}
+
 impl Wire {
     // A new chip at an address, its words as its chart resets them.
     pub fn new<C: Chart>(address: u8, trace: Trace) -> Wire
-        ensures { wired result ≡ new_wired C.Chart.resets address (traced trace) }
+        ensures { result ≡ new_wired C.Chart.resets address (traced trace) }
     {
         let mut words = [0; memory::WORDS];
         memory::reset::<C>(&mut words);
@@ -34,7 +45,7 @@ impl Wire {
 
     // The chip as new; the trace stands.
     pub fn reset<C: Chart>(&mut self)
-        ensures { wired self.new ≡ new_wired C.Chart.resets (own (wired self.old)) (wired self.old).trace }
+        ensures { self.new ≡ new_wired C.Chart.resets (own self.old) self.old.trace }
     {
         self.target = Target::new(self.target.address);
         memory::reset::<C>(&mut self.words);
@@ -42,61 +53,55 @@ impl Wire {
 
     // The chip's own act: a word goes into a register, and nothing passes.
     pub fn set_register(&mut self, register: u16, word: u16)
-        ensures { wired self.new ≡ with_register register word (wired self.old) }
+        ensures { self.new ≡ with_register register word self.old }
     {
         memory::set_register(&mut self.words, register, word);
     }
 
     // The events that passed so far, as far as there was room.
     pub fn events(&self) -> &[Event]
-        ensures { result.now ≡ (wired self.now).trace.events }
+        ensures { result.now ≡ self.now.trace.events }
     {
         self.trace.events()
     }
 
     // Whether an event found no room.
     pub fn overrun(&self) -> bool
-        ensures { result ≡ (wired self.now).trace.overrun }
+        ensures { result ≡ self.now.trace.overrun }
     {
         self.trace.overrun()
     }
 
     // One event passes: the target hears it, and the trace keeps it.
     fn pass(&mut self, event: Event)
-        ensures { wired self.new ≡ passed event (wired self.old) }
+        ensures { self.new ≡ passed event self.old }
     {
         self.target.hear(event, &mut self.words);
         self.trace.note(event);
     }
 
-    // Sends bytes up to the first that is not acknowledged; says whether all were.
-    fn send(&mut self, bytes: &[u8], mark: u8) -> bool
-        ensures value { result ≡ good mark (length bytes.now) }
-        ensures wire { wired self.new ≡ carried (sent bytes.now mark) (wired self.old) }
+    // Sends bytes up to the first that is not acknowledged, and says by the cause if there was one.
+    fn send(&mut self, bytes: &[u8], mark: usize, cause: Cause) -> Result<(), Cause>
+        ensures value { result ≡ answer mark (length bytes.now) tt cause }
+        ensures wire { self.new ≡ carried (sent bytes.now mark) self.old }
     {
-        let mut left = mark;
-        for byte in bytes {
-            let value = *byte;
-            if left == 1 {
-                self.pass(Event::Byte {
-                    value,
-                    acknowledged: false,
-                });
-                return false;
-            }
+        for (i, &value) in bytes.iter().enumerate() {
+            let acknowledged = i + 1 != mark;
             self.pass(Event::Byte {
                 value,
-                acknowledged: true,
+                acknowledged,
             });
-            left = left.saturating_sub(1);
+            if !acknowledged {
+                return Err(cause);
+            }
         }
-        true
+        Ok(())
     }
 
     // Takes a byte from the target.
     fn take(&mut self, acknowledged: bool) -> u8
-        ensures value { result ≡ given (wired self.old).target (wired self.old).words }
-        ensures wire { wired self.new ≡ passed (Byte result acknowledged) (wired self.old) }
+        ensures value { result ≡ given self.old.target self.old.words }
+        ensures wire { self.new ≡ passed (Byte result acknowledged) self.old }
     {
         let value = self.target.gives(&self.words);
         self.pass(Event::Byte {
@@ -106,74 +111,70 @@ impl Wire {
         value
     }
 
-    // Sends words, each high byte first, up to the first byte that is not acknowledged.
-    fn send_words(&mut self, words: &[u16], mark: u8) -> bool
-        ensures value { result ≡ good mark (length (word_bytes words.now)) }
-        ensures wire { wired self.new ≡ carried (sent (word_bytes words.now) mark) (wired self.old) }
+    // The address to write to, and the raw address.
+    fn send_head(&mut self, raw: u8, mark: usize) -> Result<(), Cause>
+        ensures value { result ≡ answer mark 2 tt (cause_of_put mark) }
+        ensures wire { self.new ≡ carried (sent (head_bytes (own self.old) raw) mark) self.old }
     {
-        let mut left = mark;
-        for word in words {
-            let bytes = bytes_of(*word);
-            if !self.send(&bytes, left) {
-                return false;
-            }
-            left = left.saturating_sub(2);
-        }
-        true
+        let address = write_byte(self.target.address);
+        self.send(&[address], mark, Cause::Address)?;
+        self.send(&[raw], mark.saturating_sub(1), Cause::Data)
     }
 
-    // The address to write to, the raw address and the words.
-    fn send_put(&mut self, raw: u8, words: &[u16], mark: u8) -> bool
-        ensures value { result ≡ good mark (length (put_bytes (own (wired self.old)) raw words.now)) }
-        ensures wire { wired self.new ≡ carried (sent (put_bytes (own (wired self.old)) raw words.now) mark) (wired self.old) }
+    // Sends words, each high byte first, up to the first byte that is not acknowledged.
+    fn send_words(&mut self, words: &[u16], mark: usize) -> Result<(), Cause>
+        ensures value { result ≡ answer mark (2 * length words.now) tt Cause.Data }
+        ensures wire { self.new ≡ carried (sent (word_bytes words.now) mark) self.old }
     {
-        let head = [write_byte(self.target.address), raw];
-        if !self.send(&head, mark) {
-            return false;
+        for (i, &word) in words.iter().enumerate() {
+            self.send(&bytes_of(word), mark.saturating_sub(2 * i), Cause::Data)?;
         }
+        Ok(())
+    }
+
+    // All bytes of a put.
+    fn send_put(&mut self, raw: u8, words: &[u16], mark: usize) -> Result<(), Cause>
+        ensures value { result ≡ answer mark (2 + 2 * length words.now) tt (cause_of_put mark) }
+        ensures wire { self.new ≡ carried (sent (put_bytes (own self.old) raw words.now) mark) self.old }
+    {
+        self.send_head(raw, mark)?;
         self.send_words(words, mark.saturating_sub(2))
     }
 
     // A put of words from a raw address on, as one transfer; says whether all was acknowledged.
-    pub fn put(&mut self, raw: u8, words: &[u16], mark: u8) -> bool
-        ensures value { result ≡ good mark (2 + 2 * length words.now) }
-        ensures wire { wired self.new ≡ carried (put_frame (own (wired self.old)) raw words.now mark) (wired self.old) }
-        ensures recovered { Recovered (own (wired self.old)) raw words.now mark }
+    pub fn put(&mut self, raw: u8, words: &[u16], mark: u8) -> Result<(), Cause>
+        ensures value { result ≡ answer mark (2 + 2 * length words.now) tt (cause_of_put mark) }
+        ensures wire { self.new ≡ carried (put_frame (own self.old) raw words.now mark) self.old }
+        ensures recovered { Recovered (own self.old) raw words.now mark }
     {
         self.pass(Event::Start);
-        let accepted = self.send_put(raw, words, mark);
+        let answer = self.send_put(raw, words, usize::from(mark));
         self.pass(Event::Stop);
-        accepted
+        answer
     }
 
     // Start to last byte of a get.
-    fn fetch(&mut self, raw: u8, mark: u8) -> Option<u16>
-        ensures value { result ≡ (if good mark 3 then Some (pointed_at (wired self.old) raw) else None) }
-        ensures wire { wired self.new ≡ carried (fetching (own (wired self.old)) raw (pointed_at (wired self.old) raw) mark) (wired self.old) }
+    fn fetch(&mut self, raw: u8, mark: usize) -> Result<u16, Cause>
+        ensures value { result ≡ answer mark 3 (pointed_at self.old raw) (cause_of_get mark) }
+        ensures wire { self.new ≡ carried (fetching (own self.old) raw (pointed_at self.old raw) mark) self.old }
     {
-        let address = self.target.address;
+        let again = read_byte(self.target.address);
         self.pass(Event::Start);
-        let head = [write_byte(address), raw];
-        if !self.send(&head, mark) {
-            return None;
-        }
+        self.send_head(raw, mark)?;
         self.pass(Event::Start);
-        let again = [read_byte(address)];
-        if !self.send(&again, mark.saturating_sub(2)) {
-            return None;
-        }
+        self.send(&[again], mark.saturating_sub(2), Cause::Address)?;
         let high = self.take(true);
         let low = self.take(false);
-        Some(word_of(high, low))
+        Ok(word_of(high, low))
     }
 
-    // A get of the word at a raw address, as one transfer; none where a byte was not acknowledged.
-    pub fn get(&mut self, raw: u8, mark: u8) -> Option<u16>
-        ensures value { result ≡ (if good mark 3 then Some (pointed_at (wired self.old) raw) else None) }
-        ensures wire { wired self.new ≡ carried (get_frame (own (wired self.old)) raw (pointed_at (wired self.old) raw) mark) (wired self.old) }
-        ensures untouched { Untouched (own (wired self.old)) raw (pointed_at (wired self.old) raw) mark }
+    // A get of the word at a raw address, as one transfer.
+    pub fn get(&mut self, raw: u8, mark: u8) -> Result<u16, Cause>
+        ensures value { result ≡ answer mark 3 (pointed_at self.old raw) (cause_of_get mark) }
+        ensures wire { self.new ≡ carried (get_frame (own self.old) raw (pointed_at self.old raw) mark) self.old }
+        ensures untouched { Untouched (own self.old) raw (pointed_at self.old raw) mark }
     {
-        let word = self.fetch(raw, mark);
+        let word = self.fetch(raw, usize::from(mark));
         self.pass(Event::Stop);
         word
     }
