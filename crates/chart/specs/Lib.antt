@@ -2,3 +2,4 @@ pub mod Rules
 pub mod Charts
 pub mod Replies
 pub mod Patch
+pub mod Names

@@ -1,6 +1,9 @@
 // How a call says no: eight refusals, each with its number.
-ghost use Rattle.std.specs.Prelude.{◌≡◌, ℕ, List, []};
+ghost use Rattle.std.specs.Prelude.{◌≡◌, ℕ, List, [], Some};
 ghost use Rattle.chart.specs.Replies.{told, OnLine, Mapped, cause_number, errand_number, failure_values, fault_values};
+ghost use Rattle.chart.specs.Names.{refusal_name, failure_text, fault_text, refusal_shown};
+
+use std::fmt;
 
 // What a failed transfer tells, as numbers: the values of its refusal.
 pub trait Tells {
@@ -45,6 +48,21 @@ impl<F> Refusal<F> {
         }
     }
 
+    pub fn name(&self) -> &'static str
+        ensures { result.now ≡ refusal_name (told (λ _. []) self.now).number }
+    {
+        match self {
+            Refusal::Length => "length",
+            Refusal::Register => "register",
+            Refusal::Live => "live",
+            Refusal::Setting => "setting",
+            Refusal::Asleep => "asleep",
+            Refusal::Line(_) => "line",
+            Refusal::Address => "address",
+            Refusal::Memory => "memory",
+        }
+    }
+
     // The same refusal, where a failed transfer tells something else.
     pub fn map<G, M: FnOnce(F) -> G>(self, f: M) -> Refusal<G>
         requires { OnLine self (M.pre f) }
@@ -59,6 +77,20 @@ impl<F> Refusal<F> {
             Refusal::Line(told) => Refusal::Line(f(told)),
             Refusal::Address => Refusal::Address,
             Refusal::Memory => Refusal::Memory,
+        }
+    }
+}
+
+// A refusal by its number and its name, and then what the failed transfer tells.
+impl<F: fmt::Display> fmt::Display for Refusal<F> {
+    ghost output = { refusal_shown F.Display.output };
+
+    fn fmt<W: fmt::Write>(&self, f: &mut fmt::Formatter<W>) -> fmt::Result {
+        let number = self.number();
+        let name = self.name();
+        match self {
+            Refusal::Line(told) => write!(f, "refused {number} {name}, {told}"),
+            _ => write!(f, "refused {number} {name}"),
         }
     }
 }
@@ -89,6 +121,16 @@ impl Tells for Failure {
     ghost values = { failure_values };
 }
 
+impl fmt::Display for Failure {
+    ghost output = { λ x. Some (failure_text x) };
+
+    fn fmt<W: fmt::Write>(&self, f: &mut fmt::Formatter<W>) -> fmt::Result {
+        let cause = self.cause.number();
+        let stored = self.stored;
+        write!(f, "cause {cause}, stored {stored}")
+    }
+}
+
 // On whose behalf a port was sending when a transfer failed: what the call asked for, or what was owed from before.
 #[derive(Debug, Clone, Copy, PartialEq, Eq)]
 pub enum Errand {
@@ -114,4 +156,15 @@ pub struct Fault {
 
 impl Tells for Fault {
     ghost values = { fault_values };
+}
+
+impl fmt::Display for Fault {
+    ghost output = { λ x. Some (fault_text x) };
+
+    fn fmt<W: fmt::Write>(&self, f: &mut fmt::Formatter<W>) -> fmt::Result {
+        let cause = self.cause.number();
+        let register = self.register;
+        let errand = self.errand.number();
+        write!(f, "cause {cause}, register {register}, errand {errand}")
+    }
 }

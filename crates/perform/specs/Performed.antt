@@ -1,17 +1,20 @@
 -- What the calls of a sheet come to. Assumes nothing.
-use Rattle.std.specs.Prelude.{ℕ, List, [], ◌∷◌, length}
-use Rattle.chart.specs.Replies.{Reply, accepted, told, failure_values, word_value}
+use Rattle.std.specs.Prelude.{ℕ, List, [], ◌∷◌, length, Some, None, Option, Result}
+use Rattle.chart.specs.Replies.{Reply, accepted, reply, word_value}
+use Rattle.chart.specs.declared.refusal.Failure.{Failure}
+use Rattle.chart.specs.declared.refusal.Refusal.{Refusal}
 use Rattle.i2c_target.specs.Traces.{Traced}
 use Rattle.bus.specs.Meaning.{Steps}
-use Rattle.sheet.specs.Said.{Asked, get, put, measure, down, up}
-use Rattle.perform.specs.declared.answer.Answer.{Answer}
+use Rattle.sheet.specs.Said.{Asked, asked, get, put, measure, down, up}
 use Rattle.perform.specs.declared.answer.Outcome.{Outcome}
-use Rattle.perform.specs.declared.answer.Answer.TheVariants.{Word, Done, Refused}
 
-abbrev pub answer_reply : Answer → Reply
-answer_reply (Word w) = accepted (word_value w)
-answer_reply Done = accepted []
-answer_reply (Refused e) = told failure_values e
+-- what an acceptance answers: a word, or nothing more than yes
+abbrev pub answer_values : Option ℕ → List ℕ
+answer_values (Some w) = word_value w
+answer_values None = []
+
+abbrev pub answer_reply : Result (Option ℕ) (Refusal Failure) → Reply
+answer_reply a = reply answer_values a
 
 -- the reply of a call, and how many events had passed on the wire when it was over
 pub record Seen : Type 0 where
@@ -20,6 +23,10 @@ pub record Seen : Type 0 where
 
 abbrev pub seen : Outcome → Seen
 seen o = record { reply = answer_reply o.answer; passed = o.passed }
+
+-- the call that an outcome is of
+abbrev pub called : Outcome → Asked
+called o = asked o.call.now
 
 -- one call, by the steps of the bus
 abbrev pub performed : {M : Type 0} → Steps M → Asked → M → Reply × M

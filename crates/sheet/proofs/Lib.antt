@@ -1,3 +1,4 @@
 mod Cutting
 mod Digiting
 mod Listing
+pub mod Hexing

@@ -2,3 +2,4 @@ pub mod Cut
 pub mod Numeral
 pub mod Said
 pub mod Sheets
+pub mod Texts

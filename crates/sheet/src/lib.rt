@@ -17,14 +17,17 @@
 // The make of a bus comes before the number of words, which it decides.
 #![tactic(auto)]
 
-ghost use Rattle.std.specs.Prelude.{◌≡◌};
+ghost use Rattle.std.specs.Prelude.{◌≡◌, Some};
+ghost use Rattle.sheet.specs.Said.{asked};
 ghost use Rattle.sheet.specs.Sheets.{at_line, sheet_of, Reads};
+ghost use Rattle.sheet.specs.Texts.{call_text};
 ghost use Rattle.sheet.specs.declared.LineError.TheVariants.{Memory, Wrong};
 
 use cut::Lines;
 pub use digits::number;
 use draft::Draft;
 use std::alloc::{AllocError, AllocFailed, Global};
+use std::fmt;
 use thiserror::Error;
 
 mod cut;
@@ -52,6 +55,30 @@ pub enum Call {
     Measure { register: u16, word: u16 },
     Down,
     Up,
+}
+
+// A call as a sheet writes it.
+impl fmt::Display for Call {
+    ghost output = { λ c. Some (call_text (asked c)) };
+
+    fn fmt<W: fmt::Write>(&self, f: &mut fmt::Formatter<W>) -> fmt::Result {
+        match self {
+            Call::Get { raw } => write!(f, "get {raw}"),
+            Call::Put { raw, words } => {
+                write!(f, "put {raw}")?;
+                for word in words {
+                    write!(f, " 0x{word:04X}")?;
+                }
+                Ok(())
+            }
+            Call::Measure { register, word } => {
+                let word = *word;
+                write!(f, "measure {register} 0x{word:04X}")
+            }
+            Call::Down => write!(f, "down"),
+            Call::Up => write!(f, "up"),
+        }
+    }
 }
 
 #[derive(Clone, Copy, Debug, PartialEq, Eq, Error)]

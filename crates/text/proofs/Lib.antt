@@ -1,1 +1,1 @@
-mod Adding
+mod Saying

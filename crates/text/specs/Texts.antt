@@ -1,9 +1,10 @@
 -- The transcript as bytes. Assumes nothing.
-use Rattle.std.specs.Prelude.{◌≡◌, ℕ, ◌+◌, ◌-◌, ◌/◌, ◌%◌, min, Bool, true, false, cond, List, [], ◌∷◌, ◌++◌, length, take, drop, string_bytes, codes, decimal, Result, String, OnOk, ◌==◌, nat_le, nat_lt}
-use Rattle.std.specs.List.{flat_map}
+use Rattle.std.specs.Prelude.{◌≡◌, ℕ, ◌+◌, ◌-◌, min, Bool, true, false, cond, List, [], ◌∷◌, ◌++◌, length, take, drop, string_bytes, codes, decimal, Result, String, OnOk, ◌==◌, nat_le}
+use Rattle.chart.specs.Names.{refusal_text}
 use Rattle.chart.specs.Replies.{Reply}
 use Rattle.perform.specs.Performed.{Seen}
-use Rattle.sheet.specs.Said.{Asked, get, put, measure, down, up}
+use Rattle.sheet.specs.Said.{Asked}
+use Rattle.sheet.specs.Texts.{byte_text, word_text, call_text}
 use Rattle.i2c_target.specs.Traces.{Traced}
 use Rattle.i2c_target.specs.declared.event.Event.{Event}
 use Rattle.i2c_target.specs.declared.event.Event.TheVariants.{Start, Byte, Stop}
@@ -15,38 +16,6 @@ Adds r before text after = OnOk r (string_bytes after ≡ string_bytes before ++
 abbrev pub line_end : List ℕ
 line_end = 10 ∷ []
 
--- a hexadecimal digit, with letters in upper case
-abbrev pub hex_digit : ℕ → ℕ
-hex_digit d = cond (nat_lt d 10) (48 + d) (55 + d)
-
--- two digits
-abbrev pub byte_text : ℕ → List ℕ
-byte_text n = hex_digit (n / 16) ∷ hex_digit (n % 16) ∷ []
-
--- 0x and four digits
-abbrev pub word_text : ℕ → List ℕ
-word_text n = codes "0x" ++ (byte_text (n / 256) ++ byte_text (n % 256))
-
--- the name of a refusal, by its number
-abbrev pub refusal_name : ℕ → List ℕ
-refusal_name n =
-    cond (n == 1) (codes "length")
-    (cond (n == 2) (codes "register")
-    (cond (n == 3) (codes "live")
-    (cond (n == 4) (codes "setting")
-    (cond (n == 5) (codes "asleep")
-    (cond (n == 6) (codes "line")
-    (cond (n == 7) (codes "address") (codes "memory")))))))
-
--- what a refusal tells beside its number: a cause and a count, or nothing
-abbrev pub values_text : List ℕ → List ℕ
-values_text [] = []
-values_text (cause ∷ []) = []
-values_text (cause ∷ stored ∷ more) = codes ", cause " ++ (decimal cause ++ (codes ", stored " ++ decimal stored))
-
-abbrev pub refusal_text : Reply → List ℕ
-refusal_text r = (codes "refused " ++ (decimal r.number ++ (codes " " ++ refusal_name r.number))) ++ values_text r.values
-
 -- what an acceptance answers: a word, or nothing
 abbrev pub accepted_text : List ℕ → List ℕ
 accepted_text [] = codes "ok"
@@ -54,17 +23,6 @@ accepted_text (w ∷ more) = word_text w
 
 abbrev pub reply_text : Reply → List ℕ
 reply_text r = cond (r.number == 0) (accepted_text r.values) (refusal_text r)
-
--- the words of a put, each after a blank
-abbrev pub words_text : List ℕ → List ℕ
-words_text ws = flat_map (λ w. codes " " ++ word_text w) ws
-
-abbrev pub call_text : Asked → List ℕ
-call_text (get raw) = codes "get " ++ decimal raw
-call_text (put raw ws) = codes "put " ++ (decimal raw ++ words_text ws)
-call_text (measure register w) = codes "measure " ++ (decimal register ++ (codes " " ++ word_text w))
-call_text down = codes "down"
-call_text up = codes "up"
 
 -- A for an acknowledge, N for none
 abbrev pub mark_text : Bool → List ℕ

@@ -1,4 +1,3 @@
 #![tactic(auto)]
 
-mod hex;
 pub mod text;

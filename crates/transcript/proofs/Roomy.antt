@@ -1,6 +1,7 @@
 -- The room that a sheet reserves is enough for all that its calls make pass. Assumes nothing.
 use Rattle.std.proofs.Common.{◌≡◌, ℕ, ◌+◌, ◌≤◌, Bool, false, List, [], ◌∷◌, length, None, arith}
 use Rattle.std.proofs.lemmas.Bool.Decides.{nat_tests}
+use Rattle.std.proofs.lemmas.List.Sums.{sum_by-cons}
 use Rattle.chart.specs.declared.class.Class.{Class}
 use Rattle.chip.specs.Words.{loaded}
 use Rattle.i2c_target.specs.Traces.{Traced}
@@ -43,7 +44,7 @@ module _ (class : ℕ → Class) (reset : ℕ → ℕ) where
 
   walk_roomy : (cs : List Asked) (m : I2cModel) → Room (i2c_trace m) (sheet_room cs) → Room (i2c_trace (walked (i2c_steps class reset) i2c_trace cs m).1) 0
   walk_roomy [] m r = r
-  walk_roomy (c ∷ cs) m r = walk_roomy cs (performed (i2c_steps class reset) c m).1 (call_roomy c m (sheet_room cs) r)
+  walk_roomy (c ∷ cs) m r = walk_roomy cs (performed (i2c_steps class reset) c m).1 (call_roomy c m (sheet_room cs) (rw (← sum_by-cons call_room c cs) r))
 
   pub none_left_out : (cs : List Asked) (a : ℕ) (marks : List ℕ) (tr : Traced) → tr.events ≡ [] → tr.overrun ≡ false → sheet_room cs ≤ tr.room
       → (i2c_trace (walked (i2c_steps class reset) i2c_trace cs (new_i2c reset a marks tr)).1).overrun ≡ false

@@ -1,5 +1,5 @@
 -- What the transcript of a sheet is. Assumes nothing.
-use Rattle.std.specs.Prelude.{◌≡◌, ℕ, ◌+◌, ◌*◌, min, true, false, ◌⊎◌, List, [], ◌∷◌, length}
+use Rattle.std.specs.Prelude.{sum_by, ◌≡◌, ℕ, ◌+◌, ◌*◌, min, true, false, ◌⊎◌, List, [], length}
 use Rattle.chart.specs.Charts.{head_class, head_reset, valve_class, valve_reset}
 use Rattle.chart.specs.Replies.{refused}
 use Rattle.chart.specs.declared.class.Class.{Class}
@@ -37,8 +37,7 @@ call_room down = 0
 call_room up = 0
 
 abbrev pub sheet_room : List Asked → ℕ
-sheet_room [] = 0
-sheet_room (c ∷ cs) = call_room c + sheet_room cs
+sheet_room cs = sum_by call_room cs
 
 -- On a new I2C bus with an empty trace, which is large enough that nothing is left out; an address that no target may have
 -- makes no bus.
@@ -53,6 +52,11 @@ I2cTells class reset a marks cs text =
 abbrev pub WindowTells : (ℕ → Class) → (ℕ → ℕ) → List Asked → List ℕ → Type 0
 WindowTells class reset cs text = text ≡ played (window_steps class reset) window_trace window_chip cs (window_of (fresh reset 129) true)
 
+-- on a chip of one chart, behind the make of bus that a sheet names
+abbrev pub MakeTells : (ℕ → Class) → (ℕ → ℕ) → Make → List ℕ → List Asked → List ℕ → Type 0
+MakeTells class reset (I2c a) marks cs text = I2cTells class reset a marks cs text
+MakeTells class reset Window marks cs text = WindowTells class reset cs text
+
 abbrev pub class_of : ChartName → ℕ → Class
 class_of Head = head_class
 class_of Valve = valve_class
@@ -61,10 +65,6 @@ abbrev pub reset_of : ChartName → ℕ → ℕ
 reset_of Head = head_reset
 reset_of Valve = valve_reset
 
-abbrev pub make_tells : Make → ChartName → List ℕ → List Asked → List ℕ → Type 0
-make_tells (I2c a) name marks cs text = I2cTells (class_of name) (reset_of name) a marks cs text
-make_tells Window name marks cs text = WindowTells (class_of name) (reset_of name) cs text
-
 -- the text is the transcript of the sheet
 abbrev pub SheetTells : Whole → List ℕ → Type 0
-SheetTells w text = make_tells w.make w.name w.marks w.calls text
+SheetTells w text = MakeTells (class_of w.name) (reset_of w.name) w.make w.marks w.calls text

@@ -1,12 +1,15 @@
 // Performs a bench sheet on a simulated chip, and writes down what each call answered and what passed on the wire.
 #![tactic(auto)]
 
-ghost use Rattle.std.specs.Prelude.{◌≡◌, map, IfSome, IfOk, string_bytes};
+ghost use Rattle.std.specs.Prelude.{◌≡◌, map, IfSome, IfOk, MatchResult, string_bytes};
+ghost use Rattle.chart.specs.Replies.{told, failure_values};
 ghost use Rattle.sheet.specs.Said.{asked};
 ghost use Rattle.sheet.specs.Sheets.{whole};
-ghost use Rattle.transcript.specs.Told.{call_room, sheet_room, played, I2cTells, WindowTells, SheetTells};
+ghost use Rattle.text.specs.Texts.{unmade_text};
+ghost use Rattle.transcript.specs.Told.{call_room, sheet_room, played, MakeTells, SheetTells};
 
 use bus::bus::Bus;
+use bus::unmade::Unmade;
 use chart::charts::{Head, Valve};
 use chart::class::Chart;
 use chip::memory;
@@ -34,42 +37,46 @@ fn room_of(call: &Call) -> usize
 fn room(calls: &[Call]) -> Option<usize>
     ensures { IfSome result (λ n. n ≡ sheet_room (map asked calls.now)) }
 {
-    let mut all: usize = 0;
-    for call in calls {
-        all = all.checked_add(room_of(call))?;
-    }
-    Some(all)
+    calls
+        .iter()
+        .try_fold(0usize, |all, call| all.checked_add(room_of(call)))
 }
 
-fn play<B: Bus>(heap: Global, mut bus: B, calls: &[Call]) -> Result<String, AllocError>
-where
-    B: Drop,
-    ensures { IfOk result (λ t. string_bytes t ≡ played (B.Bus.steps B.Chart.Chart.classed B.Chart.Chart.resets) B.Bus.trace B.Bus.chip (map asked calls.now) (B.Bus.model bus)) }
+// Performs calls on a bus, where one was made.
+fn play<B: Bus + Drop, T: Drop>(
+    heap: Global,
+    made: Result<B, Unmade<T>>,
+    calls: &[Call],
+) -> Result<String, AllocError>
+    ensures { IfOk result (λ t. MatchResult made (λ bus. string_bytes t ≡ played (B.Bus.steps B.Chart.Chart.classed B.Chart.Chart.resets) B.Bus.trace B.Bus.chip (map asked calls.now) (B.Bus.model bus)) (λ e. string_bytes t ≡ unmade_text (told failure_values e.refusal))) }
 {
-    let outcomes = perform_all(heap, &mut bus, calls)?;
-    written(heap, &bus, calls, outcomes.as_slice())
-}
-
-fn play_i2c<C: Chart>(heap: Global, address: u16, sheet: &Sheet) -> Result<String, AllocError>
-    ensures { IfOk result (λ t. I2cTells C.Chart.classed C.Chart.resets address sheet.now.marks.items (map asked sheet.now.calls.items) (string_bytes t)) }
-{
-    let Some(room) = room(sheet.calls.as_slice()) else {
-        return Err(AllocError);
-    };
-    let trace = Trace::new(heap, room)?;
-    match I2c::<C>::new(address, sheet.marks.as_slice(), trace) {
-        Ok(bus) => play(heap, bus, sheet.calls.as_slice()),
-        Err(unaddressed) => unmade(heap, unaddressed.refusal),
+    match made {
+        Ok(mut bus) => {
+            let outcomes = perform_all(heap, &mut bus, calls)?;
+            written(heap, &bus, outcomes.as_slice())
+        }
+        Err(Unmade { refusal, .. }) => unmade(heap, refusal),
     }
 }
 
-fn play_window<C: Chart>(heap: Global, sheet: &Sheet) -> Result<String, AllocError>
-    ensures { IfOk result (λ t. WindowTells C.Chart.classed C.Chart.resets (map asked sheet.now.calls.items) (string_bytes t)) }
+// Performs a sheet on a new chip of one chart.
+fn play_on<C: Chart>(heap: Global, sheet: &Sheet) -> Result<String, AllocError>
+    ensures { IfOk result (λ t. MakeTells C.Chart.classed C.Chart.resets sheet.now.make sheet.now.marks.items (map asked sheet.now.calls.items) (string_bytes t)) }
 {
-    let mut words = [0; memory::WORDS];
-    match Window::<C>::new(&mut words) {
-        Ok(bus) => play(heap, bus, sheet.calls.as_slice()),
-        Err(unfit) => unmade(heap, unfit.refusal),
+    let calls = sheet.calls.as_slice();
+    match sheet.make {
+        Make::I2c(address) => {
+            let Some(room) = room(calls) else {
+                return Err(AllocError);
+            };
+            let trace = Trace::new(heap, room)?;
+            let made = I2c::<C>::new(address, sheet.marks.as_slice(), trace);
+            play(heap, made, calls)
+        }
+        Make::Window => {
+            let mut words = [0; memory::WORDS];
+            play(heap, Window::<C>::new(&mut words), calls)
+        }
     }
 }
 
@@ -77,10 +84,8 @@ fn play_window<C: Chart>(heap: Global, sheet: &Sheet) -> Result<String, AllocErr
 pub fn transcript(heap: Global, sheet: &Sheet) -> Result<String, AllocError>
     ensures { IfOk result (λ t. SheetTells (whole sheet.now) (string_bytes t)) }
 {
-    match (sheet.make, sheet.chart) {
-        (Make::I2c(address), ChartName::Head) => play_i2c::<Head>(heap, address, sheet),
-        (Make::I2c(address), ChartName::Valve) => play_i2c::<Valve>(heap, address, sheet),
-        (Make::Window, ChartName::Head) => play_window::<Head>(heap, sheet),
-        (Make::Window, ChartName::Valve) => play_window::<Valve>(heap, sheet),
+    match sheet.chart {
+        ChartName::Head => play_on::<Head>(heap, sheet),
+        ChartName::Valve => play_on::<Valve>(heap, sheet),
     }
 }

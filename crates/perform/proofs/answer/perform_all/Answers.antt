@@ -1,12 +1,10 @@
 use Rattle.std.proofs.Common.{◌+◌, [], ◌∷◌, ◌++◌, map, drop, vec_items, sym, ap, ◌∙◌, arith}
 use Rattle.std.proofs.lemmas.List.{append-nil, drop_more, drop_all, map_push}
+use Rattle.std.proofs.lemmas.Grind.{common_steps}
 use Rattle.sheet.specs.Said.{asked}
 use Rattle.perform.specs.Performed.{answer_reply, seen, walked}
 use Rattle.perform.proofs.Walking.{continued, one_more}
 use Rattle.perform.proofs.answer.perform_all.Goals as goal
-
-pub push_reserved-requires : goal.push_reserved-requires
-push_reserved-requires g c = omega (arith, c.loop-call.invariant.0, c.loop-call.invariant.1, c.loop-call-test.true)
 
 pub loop-call-preserved : goal.loop-call-preserved
 loop-call-preserved g c =
@@ -20,18 +18,19 @@ loop-call-preserved g c =
     let old = g.B.Bus.model l.bus in
     let new = g.B.Bus.model c.perform-answer.new.bus in
     let cut = drop_more calls i c.call-item.result c.loop-call-test.true ∙ ap (λ x. x ∷ drop (i + 1) calls) (sym c.call-item.is) in (
-      omega (arith, c.push_reserved.ensures.len, l.invariant.0),
-      omega (arith, c.push_reserved.ensures.capacity, l.invariant.1),
+      grind (arith, common_steps),
+      grind (arith, common_steps),
+      grind (arith, common_steps),
       ap (λ os. continued (map seen os) (walked step trace rest new)) c.push_reserved.ensures.items
           ∙ ap (λ rs. continued rs (walked step trace rest new)) (map_push seen (vec_items l.outcomes) _)
           ∙ ap (λ n. continued (before ++ (record { reply = answer_reply c.perform-answer.result; passed = n } ∷ [])) (walked step trace rest new)) c.passed_on-passed.ensures
           ∙ one_more step trace before (asked c.call-item.result) rest (answer_reply c.perform-answer.result, new) old c.perform-answer.ensures
           ∙ ap (λ cs. continued before (walked step trace (map asked cs) old)) (sym cut)
-          ∙ l.invariant.2,
+          ∙ l.invariant.3,
     )
 
-pub returns : goal.returns
-returns g c =
+pub returns-clause-outcomes : goal.returns-clause-outcomes
+returns-clause-outcomes g c =
     let l = c.loop-call in
     let step = g.B.Bus.steps g.B.Chart.Chart.classed g.B.Chart.Chart.resets in
     let trace = g.B.Bus.trace in
@@ -39,4 +38,4 @@ returns g c =
     let here = g.B.Bus.model l.bus in
     ap (λ rs. (rs, here)) (sym (append-nil before))
     ∙ ap (λ cs. continued before (walked step trace (map asked cs) here)) (sym (drop_all l.call-index c.args.calls.now c.loop-call-test.false))
-    ∙ l.invariant.2
+    ∙ l.invariant.3

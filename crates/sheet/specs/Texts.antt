@@ -1,0 +1,27 @@
+-- A call as a sheet writes it. Assumes nothing.
+use Rattle.std.specs.Prelude.{ℕ, ◌+◌, ◌/◌, ◌%◌, cond, List, [], ◌∷◌, ◌++◌, codes, decimal, nat_lt}
+use Rattle.std.specs.List.{flat_map}
+use Rattle.sheet.specs.Said.{Asked, get, put, measure, down, up}
+
+-- a hexadecimal digit, with letters in upper case
+abbrev pub hex_digit : ℕ → ℕ
+hex_digit d = cond (nat_lt d 10) (48 + d) (55 + d)
+
+-- two digits
+abbrev pub byte_text : ℕ → List ℕ
+byte_text n = hex_digit (n / 16) ∷ hex_digit (n % 16) ∷ []
+
+-- 0x and four digits
+abbrev pub word_text : ℕ → List ℕ
+word_text n = codes "0x" ++ (byte_text (n / 256) ++ byte_text (n % 256))
+
+-- the words of a put, each after a blank
+abbrev pub words_text : List ℕ → List ℕ
+words_text ws = flat_map (λ w. codes " " ++ word_text w) ws
+
+abbrev pub call_text : Asked → List ℕ
+call_text (get raw) = codes "get " ++ decimal raw
+call_text (put raw ws) = codes "put " ++ (decimal raw ++ words_text ws)
+call_text (measure register w) = codes "measure " ++ (decimal register ++ (codes " " ++ word_text w))
+call_text down = codes "down"
+call_text up = codes "up"
