@@ -7,6 +7,7 @@ use Rattle.bus.specs.declared.unmade.Unmade.{Unmade}
 use Rattle.bus.specs.I2cs.{I2cModel, i2c_of, new_i2c}
 use Rattle.i2c.specs.declared.i2c.I2c.{I2c}
 
+-- a plain view: with an `impl Model` of I2c, `send_get` no longer proves without an answer
 abbrev pub i2c_model : {C : Type 0} → I2c C → I2cModel
 i2c_model b = i2c_of b.line b.supply b.wire
 

@@ -7,6 +7,7 @@ use Rattle.bus.specs.declared.unmade.Unmade.{Unmade}
 use Rattle.bus.specs.Windows.{WindowModel, window_of}
 use Rattle.window.specs.declared.window.Window.{Window}
 
+-- a plain view, as for the I2C bus
 abbrev pub window_model : {C : Type 0} → Window C → WindowModel
 window_model w = window_of w.words.now w.supply
 
