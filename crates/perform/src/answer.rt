@@ -36,7 +36,7 @@ pub fn perform<B: Bus>(bus: &mut B, call: &Call) -> Answer
 }
 
 // A call, what it answered, and how many events had passed on the wire when it was over.
-#[derive(Clone, Copy, Drop)]
+#[derive(Debug, Clone, Copy, PartialEq, Eq)]
 pub struct Outcome<'a> {
     pub call: &'a Call,
     pub answer: Answer,
