@@ -35,8 +35,8 @@ pub fn perform<B: Bus>(bus: &mut B, call: &Call) -> Answer
     }
 }
 
-// A call, what it answered, and how many events had passed on the wire when it was over.
-#[derive(Clone, Copy, Drop)]
+// A call with its answer, and how many events had passed on the wire when it was over.
+#[derive(Debug, Clone, Copy, PartialEq, Eq)]
 pub struct Outcome<'a> {
     pub call: &'a Call,
     pub answer: Answer,

@@ -1,5 +1,5 @@
 -- The transcript as bytes. Assumes nothing.
-use Rattle.std.specs.Prelude.{◌≡◌, ℕ, ◌+◌, ◌-◌, min, Bool, true, false, cond, List, [], ◌∷◌, ◌++◌, length, take, drop, string_bytes, codes, decimal, Result, String, OnOk, ◌==◌, nat_le}
+use Rattle.std.specs.Prelude.{ℕ, ◌+◌, ◌-◌, min, Bool, true, false, cond, List, [], ◌∷◌, ◌++◌, length, take, drop, codes, decimal, ◌==◌, nat_le}
 use Rattle.chart.specs.Names.{refusal_text}
 use Rattle.chart.specs.Replies.{Reply}
 use Rattle.perform.specs.Performed.{Seen}
@@ -8,10 +8,6 @@ use Rattle.sheet.specs.Texts.{byte_text, word_text, call_text}
 use Rattle.i2c_target.specs.Traces.{Traced}
 use Rattle.i2c_target.specs.declared.event.Event.{Event}
 use Rattle.i2c_target.specs.declared.event.Event.TheVariants.{Start, Byte, Stop}
-
--- a writer that answers r adds the text, unless memory fails
-abbrev pub Adds : {T E Z : Type 0} → Result T E → String Z → List ℕ → String Z → Type 0
-Adds r before text after = OnOk r (string_bytes after ≡ string_bytes before ++ text)
 
 abbrev pub line_end : List ℕ
 line_end = 10 ∷ []

@@ -1,8 +1,6 @@
 // The transcript as text, whose form tools read.
-ghost use Rattle.std.specs.Prelude.{◌≡◌, ◌++◌, false, map, IfOk, Some, codes, string_bytes};
-ghost use Rattle.chart.specs.Names.{refusal_text};
+ghost use Rattle.std.specs.Prelude.{◌≡◌, false, map, IfOk, Some, string_bytes};
 ghost use Rattle.chart.specs.Replies.{told, failure_values};
-ghost use Rattle.sheet.specs.Said.{asked};
 ghost use Rattle.perform.specs.Performed.{answer_reply, seen, called};
 ghost use Rattle.text.specs.Texts.{reply_text, event_text, goes_on, events_text, events_between, call_lines, calls_lines, transcript_text, unmade_text};
 
