@@ -20,7 +20,8 @@ pub trait Bus {
 
     ghost model: { Self → Model };
 
-    // What each call does, by the classes and the reset words of the chart.
+    // What each call does, by the classes and the reset words of any chart. The clauses put in its own: a member that has them in it would
+    // be one more for each `impl` to give, since a default sees no other member.
     ghost steps: { (ℕ → Class) → (ℕ → ℕ) → Steps Model };
 
     ghost chip: { Model → Chip };

@@ -30,7 +30,7 @@ pub trait Port {
 
     ghost model: { Self → Model };
 
-    // What each call does, by the classes and the reset words of the chart.
+    // What each call does, by the classes and the reset words of any chart, as on a bus.
     ghost steps: { (ℕ → Class) → (ℕ → ℕ) → PortSteps Model };
 
     // The settings as it shows them, by number.
