@@ -64,7 +64,7 @@ pub trait Bus {
     fn events(&self) -> &[Event]
         ensures { result.now ≡ (trace (model self.now)).events };
 
-    // Whether an event found no room.
+    // Whether an event found no room. A method of its own, since a window has no `Trace` that both could be asked of.
     fn overrun(&self) -> bool
         ensures { result ≡ (trace (model self.now)).overrun };
 

@@ -39,7 +39,8 @@ impl<'a> Line<'a> {
     }
 
     // The mark of a transfer in which the target must acknowledge so many bytes. A mark that names one of
-    // them makes the transfer fail, which is counted here.
+    // them makes the transfer fail, which is counted here. After the last mark it is 0 and no `None`, since 0 is already the mark that names
+    // no byte.
     pub fn draw(&mut self, bytes: usize) -> u8
         ensures value { result ≡ first_mark self.old.marks }
         ensures line { self.new ≡ drawn bytes self.old }

@@ -97,6 +97,7 @@ impl<'a, C: Chart> Bus for Window<'a, C> {
         self.supply = false;
     }
 
+    // This and `supply` are as in `I2c`: a type for both to share would be a struct round one `bool`.
     fn up(&mut self) {
         self.supply = true;
     }
