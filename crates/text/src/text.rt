@@ -2,7 +2,7 @@
 ghost use Rattle.std.specs.Prelude.{◌≡◌, false, map, IfOk, Some, string_bytes};
 ghost use Rattle.chart.specs.Replies.{told, failure_values};
 ghost use Rattle.perform.specs.Performed.{answer_reply, seen, called};
-ghost use Rattle.text.specs.Texts.{reply_text, event_text, goes_on, events_text, events_between, call_lines, calls_lines, transcript_text, unmade_text};
+ghost use Rattle.text.specs.Texts.{reply_text, event_text, goes_on, events_text, events_between, call_lines, calls_lines, full_text, transcript_text, unmade_text};
 
 use bus::bus::Bus;
 use chart::refusal::{Failure, Refusal};
@@ -20,6 +20,7 @@ struct Reply {
 impl fmt::Display for Reply {
     ghost output = { λ x. Some (reply_text (answer_reply x.answer)) };
 
+    #[tactic(auto, using(sheet::proofs::Hexing::word_written))]
     fn fmt<W: fmt::Write>(&self, f: &mut fmt::Formatter<W>) -> fmt::Result {
         match self.answer {
             Ok(Some(word)) => write!(f, "0x{word:04X}"),
@@ -139,6 +140,17 @@ impl fmt::Display for Entries<'_> {
     }
 }
 
+// The line below the calls where the trace was full.
+fn note(overrun: bool) -> &'static str
+    ensures { result.now ≡ full_text overrun }
+{
+    if overrun {
+        "frames left out: the trace is full\n"
+    } else {
+        ""
+    }
+}
+
 // What calls answered on a bus, and what passed on its wire for each.
 #[derive(Drop)]
 struct Transcript<'a, B> {
@@ -154,11 +166,7 @@ impl<B: Bus> fmt::Display for Transcript<'_, B> {
             events: self.bus.events(),
             outcomes: self.outcomes,
         };
-        let note = if self.bus.overrun() {
-            "frames left out: the trace is full\n"
-        } else {
-            ""
-        };
+        let note = note(self.bus.overrun());
         let calls = self.outcomes.len();
         let failed = self.bus.failed();
         writeln!(f, "{entries}{note}calls {calls}, failed transfers {failed}")
@@ -174,6 +182,7 @@ pub fn written<B: Bus>(heap: Global, bus: &B, outcomes: &[Outcome]) -> Result<St
 }
 
 // The whole answer where no bus is made.
+#[tactic(auto, using(crate::proofs::Saying::refusal_said))]
 pub fn unmade(heap: Global, refusal: Refusal<Failure>) -> Result<String, AllocError>
     ensures { IfOk result (λ t. string_bytes t ≡ unmade_text (told failure_values refusal)) }
 {

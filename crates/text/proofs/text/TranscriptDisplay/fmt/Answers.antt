@@ -1,13 +1,11 @@
-use Rattle.std.proofs.Common.{◌≡◌, ◌∙◌, ap, arith}
+use Rattle.std.proofs.Common.{◌∙◌, ap}
 use Rattle.std.proofs.Output.{has_written_of_eq}
 use Rattle.text.proofs.Saying.{whole}
 use Rattle.text.specs.Texts.{full_text}
 use Rattle.text.proofs.text.TranscriptDisplay.fmt.Goals as goal
-use Rattle.text.proofs.text.TranscriptDisplay.fmt.Goals.{then-overrun, else-overrun}
 
 pub returns-clause-writes : goal.returns-clause-writes
 returns-clause-writes g c =
     let trace = g.B.Bus.trace (g.B.Bus.model c.args.self.now.bus.now) in
-    let note : c.if-overrun.note.now ≡ full_text c.overrun.result = elim c.if-overrun.branch [ then-overrun w ↦ grind arith | else-overrun w ↦ grind arith ] in
-    let is = whole trace _ _ c.args.self.now.outcomes.now _ _ c.events.ensures (note ∙ ap full_text c.overrun.ensures) c.failed-failed.ensures in
+    let is = whole trace _ _ c.args.self.now.outcomes.now _ _ c.events.ensures (c.note-note.ensures ∙ ap full_text c.overrun.ensures) c.failed-failed.ensures in
     λ plain ok. has_written_of_eq _ _ _ _ _ is (c.writeln.ensures.writes plain ok)
