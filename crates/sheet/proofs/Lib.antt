@@ -1,4 +1,5 @@
 mod Cutting
 mod Digiting
 mod Listing
+pub mod Naming
 pub mod Hexing

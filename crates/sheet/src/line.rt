@@ -113,6 +113,7 @@ fn measure(rest: &[u8]) -> Result<Call, Mistake>
     Ok(Call::Measure { register, word })
 }
 
+#[tactic(auto, using(crate::proofs::Naming::spelled, crate::proofs::Naming::apart))]
 fn read_call(heap: Global, name: &[u8], rest: &[u8]) -> Result<Call, LineError>
     ensures { Gives asked result (call_named name.now (words_of rest.now)) }
 {
@@ -133,6 +134,7 @@ fn read_call(heap: Global, name: &[u8], rest: &[u8]) -> Result<Call, LineError>
 }
 
 // The statement that a name begins.
+#[tactic(auto, using(crate::proofs::Naming::spelled, crate::proofs::Naming::apart))]
 pub fn read_statement(heap: Global, name: &[u8], rest: &[u8]) -> Result<Statement, LineError>
     ensures { Gives said result (statement_named name.now (words_of rest.now)) }
 {
