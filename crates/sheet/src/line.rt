@@ -1,7 +1,7 @@
 // Reads the words of one line.
 ghost use Rattle.std.specs.Prelude.{◌≡◌, ℕ, List, Result, vec_items};
 ghost use Rattle.sheet.specs.Cut.{words_of};
-ghost use Rattle.sheet.specs.Said.{Gives, exactly, all_of, asked, said, map_ok, call_named, statement_named, bus_of, chart_of, get_of, put_of, measure_of, number_of, mark_of};
+ghost use Rattle.sheet.specs.Said.{Gives, exactly, all_of, asked, said, map_ok, call_named, statement_named, bus_of, chart_of, marks_of, get_of, put_of, measure_of, number_of, mark_of};
 
 use crate::cut::Words;
 use crate::digits::number;
@@ -90,6 +90,12 @@ fn chart(rest: &[u8]) -> Result<ChartName, Mistake>
     }
 }
 
+fn marks(heap: Global, rest: &[u8]) -> Result<Vec<u8>, LineError>
+    ensures { Gives vec_items result (marks_of (words_of rest.now)) }
+{
+    all(heap, rest, a_mark)
+}
+
 fn get(rest: &[u8]) -> Result<Call, Mistake>
     ensures { map_ok asked result ≡ get_of (words_of rest.now) }
 {
@@ -141,7 +147,7 @@ pub fn read_statement(heap: Global, name: &[u8], rest: &[u8]) -> Result<Statemen
     match name {
         b"bus" => Ok(Statement::Bus(bus(rest)?)),
         b"chart" => Ok(Statement::Chart(chart(rest)?)),
-        b"marks" => Ok(Statement::Marks(all(heap, rest, a_mark)?)),
+        b"marks" => Ok(Statement::Marks(marks(heap, rest)?)),
         _ => Ok(Statement::Call(read_call(heap, name, rest)?)),
     }
 }
