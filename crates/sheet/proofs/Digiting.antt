@@ -18,11 +18,6 @@ too_large base n (c ∷ cs) one big =
 same_worth : (base c : ℕ) → base ≤ 16 → digit_value c < base → digit c ≡ digit_value c
 same_worth base c few lt = grind (arith, nat_tests)
 
-pub all_read : (base : ℕ) (ds : List ℕ) (n i : ℕ) → short (following base n (drop i ds)) ≡ in_base base ds → n < 65536 → length ds ≤ i → Some n ≡ in_base base ds
-all_read base ds n i old small le =
-    let step : following base n (drop i ds) ≡ Some n = at_drop_all (following base n) ds i le in
-    sym (cond-true _ _ _ (lt-ltb n 65536 small)) ∙ sym (ap short step) ∙ old
-
 module _ (base : ℕ) (ds : List ℕ) (n i : ℕ) (old : short (following base n (drop i ds)) ≡ in_base base ds) (few : base ≤ 16) (lt : i < length ds) (d : ℕ) (is : d ≡ digit_value (get_or ds i 0)) (yea : d < base) where
   pub one_more : short (following base (n * base + d) (drop (i + 1) ds)) ≡ in_base base ds
   one_more =

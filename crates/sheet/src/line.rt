@@ -29,6 +29,7 @@ fn a_mark(word: &[u8]) -> Result<u8, Mistake>
 }
 
 // The `N` numbers of a line that has just so many words left.
+#[tactic(auto, using(crate::proofs::Cutting::few_after))]
 fn numbers<const N: usize>(rest: &[u8]) -> Result<[u16; N], Mistake>
     ensures { result ≡ exactly N (words_of rest.now) }
 {
@@ -140,7 +141,7 @@ fn read_call(heap: Global, name: &[u8], rest: &[u8]) -> Result<Call, LineError>
 }
 
 // The statement that a name begins.
-#[tactic(auto, using(crate::proofs::Naming::spelled, crate::proofs::Naming::apart))]
+#[tactic(auto, using(crate::proofs::Naming::apart))]
 pub fn read_statement(heap: Global, name: &[u8], rest: &[u8]) -> Result<Statement, LineError>
     ensures { Gives said result (statement_named name.now (words_of rest.now)) }
 {

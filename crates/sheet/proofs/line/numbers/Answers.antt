@@ -7,9 +7,6 @@ use Rattle.sheet.proofs.Cutting.{few_after}
 use Rattle.sheet.proofs.Listing.{onto_none, ends}
 use Rattle.sheet.proofs.line.numbers.Goals as goal
 
-pub count-requires-clause-fits : goal.count-requires-clause-fits
-count-requires-clause-fits g c = inl (omega (arith, few_after true c.args.rest.now))
-
 pub loop-i-init : goal.loop-i-init
 loop-i-init g c =
     let n : c.count.result ≡ length (words_of c.args.rest.now) = count_from_yields_List _ _ c.count.ensures.ran (YieldsList-from_first (λ x. x.now) (λ s. words_of s.0.now) (words_of c.args.rest.now) refl) in
