@@ -1,6 +1,6 @@
 -- What the loop that reads digits needs. Assumes nothing.
-use Rattle.std.proofs.Common.{◌≡◌, ℕ, ◌+◌, ◌*◌, ◌<◌, ◌≤◌, cond, ltb, List, [], ◌∷◌, length, get_or, drop, Some, None, sym, refl, ap, ◌∙◌, le-mul_of_pos_right, arith}
-use Rattle.std.proofs.lemmas.List.{at_drop_more, at_drop_all}
+use Rattle.std.proofs.Common.{◌≡◌, ℕ, ◌+◌, ◌*◌, ◌<◌, ◌≤◌, cond, ltb, List, [], ◌∷◌, length, get_or, drop, None, sym, refl, ap, ◌∙◌, le-mul_of_pos_right, arith}
+use Rattle.std.proofs.lemmas.List.{at_drop_more}
 use Rattle.std.proofs.lemmas.Bool.{cond-true, cond-false, cond_both, lt-ltb, le-ltb}
 use Rattle.std.proofs.lemmas.Bool.Decides.{nat_tests}
 use Rattle.std.specs.Char.{digit_value}
@@ -19,7 +19,7 @@ same_worth : (base c : ℕ) → base ≤ 16 → digit_value c < base → digit c
 same_worth base c few lt = grind (arith, nat_tests)
 
 module _ (base : ℕ) (ds : List ℕ) (n i : ℕ) (old : short (following base n (drop i ds)) ≡ in_base base ds) (few : base ≤ 16) (lt : i < length ds) (d : ℕ) (is : d ≡ digit_value (get_or ds i 0)) (yea : d < base) where
-  pub one_more : short (following base (n * base + d) (drop (i + 1) ds)) ≡ in_base base ds
+  one_more : short (following base (n * base + d) (drop (i + 1) ds)) ≡ in_base base ds
   one_more =
       let e : digit (get_or ds i 0) ≡ d = same_worth base (get_or ds i 0) few (omega arith) ∙ sym is in
       let step : following base n (drop i ds) ≡ cond (ltb (digit (get_or ds i 0)) base) (following base (n * base + digit (get_or ds i 0)) (drop (i + 1) ds)) None = at_drop_more (following base n) ds i 0 lt in

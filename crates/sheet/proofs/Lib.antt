@@ -1,5 +1,5 @@
 mod Cutting
 mod Digiting
 mod Listing
-pub mod Naming
+mod Naming
 pub mod Hexing

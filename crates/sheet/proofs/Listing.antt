@@ -1,7 +1,6 @@
 -- The steps of the loops that read a list of words. Assumes nothing.
-use Rattle.std.proofs.Common.{◌≡◌, List, [], ◌∷◌, ◌++◌, Ok, Err, Result, sym, refl, ap, ◌∙◌, append_assoc, append-nil}
+use Rattle.std.proofs.Common.{◌≡◌, List, [], ◌++◌, Ok, Err, Result, refl}
 use Rattle.sheet.specs.declared.Mistake.{Mistake}
-use Rattle.sheet.specs.Said.{chained}
 
 -- what is left, after the values so far
 abbrev pub onto : {X : Type 0} → List X → Result (List X) Mistake → Result (List X) Mistake
@@ -11,6 +10,3 @@ onto xs (Err m) = Err m
 pub onto_none : {X : Type 0} (r : Result (List X) Mistake) → r ≡ onto [] r
 onto_none (Ok ys) = refl
 onto_none (Err m) = refl
-
-pub ends : {X : Type 0} (whole here : Result (List X) Mistake) (xs : List X) → whole ≡ onto xs here → here ≡ Ok [] → whole ≡ Ok xs
-ends whole here xs old none = old ∙ ap (onto xs) none ∙ ap Ok (append-nil xs)

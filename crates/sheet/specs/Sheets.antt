@@ -1,6 +1,6 @@
 -- What a sheet says as a whole. Assumes nothing.
 use Rattle.std.specs.Prelude.{◌≡◌, ℕ, ◌+◌, Bool, true, false, cond, ◌&&◌, List, [], ◌∷◌, ◌++◌, map, is_some, Some, None, Ok, Err, vec_items, Option, Result}
-use Rattle.std.specs.Option.{option_map, unwrap_or}
+use Rattle.std.specs.Option.{unwrap_or}
 use Rattle.sheet.specs.declared.ChartName.{ChartName}
 use Rattle.sheet.specs.declared.ChartName.TheVariants.{Head}
 use Rattle.sheet.specs.declared.Fault.{Fault}
