@@ -10,3 +10,6 @@ spelled s p n h = (bytes_eq-Decides s p).1 (text_from_reads s p n h)
 -- the first byte is enough
 pub apart : (s p : List ℕ) → (get_or s 0 0 ≡ get_or p 0 0 → ⊥) → bytes_eq s p ≡ false
 apart s p differ = false_from_ne_true _ (λ e. differ (ap (λ l. get_or l 0 0) ((bytes_eq-Decides s p).0 e)))
+
+-- for a `match` on names
+pub ruleset names = (spelled, apart)

@@ -60,6 +60,7 @@ fn all<T: Drop, F: Fn(&[u8]) -> Result<T, Mistake>>(
     Ok(all)
 }
 
+#[tactic(auto, using(crate::proofs::Naming::names))]
 fn bus(rest: &[u8]) -> Result<Make, Mistake>
     ensures { result ≡ bus_of (words_of rest.now) }
 {
@@ -120,7 +121,7 @@ fn measure(rest: &[u8]) -> Result<Call, Mistake>
     Ok(Call::Measure { register, word })
 }
 
-#[tactic(auto, using(crate::proofs::Naming::spelled, crate::proofs::Naming::apart))]
+#[tactic(auto, using(crate::proofs::Naming::names))]
 fn read_call(heap: Global, name: &[u8], rest: &[u8]) -> Result<Call, LineError>
     ensures { Gives asked result (call_named name.now (words_of rest.now)) }
 {
@@ -141,7 +142,7 @@ fn read_call(heap: Global, name: &[u8], rest: &[u8]) -> Result<Call, LineError>
 }
 
 // The statement that a name begins.
-#[tactic(auto, using(crate::proofs::Naming::apart))]
+#[tactic(auto, using(crate::proofs::Naming::names))]
 pub fn read_statement(heap: Global, name: &[u8], rest: &[u8]) -> Result<Statement, LineError>
     ensures { Gives said result (statement_named name.now (words_of rest.now)) }
 {
