@@ -2,7 +2,7 @@
 use Rattle.std.proofs.Common.{◌≡◌, ℕ, ◌+◌, ◌-◌, ◌<◌, ◌≤◌, Bool, true, false, cond, eqb, not, List, [], ◌∷◌, Some, None, length, get_or, take, drop, refl, ap, sym, ◌∙◌, add-zero, arith}
 use Rattle.std.specs.List.{position, position_or_len}
 use Rattle.std.specs.Option.{unwrap_or}
-use Rattle.std.proofs.lemmas.Bool.{cond-true, cond-false, cond_both}
+use Rattle.std.proofs.lemmas.Bool.{cond-true, cond-false, cond_both, not-true}
 use Rattle.std.proofs.lemmas.Bool.Decides.{nat_tests}
 use Rattle.std.proofs.lemmas.Option.{cond_some}
 use borrow.Author.Tests.{ltb-true}
@@ -57,15 +57,11 @@ begins (c ∷ cs) some e =
     let g : reach (c ∷ cs) ≡ 1 + reach cs = cond-true _ _ _ (ap not e) in
     cond-false _ _ _ e ∙ ap (λ l. (c ∷ solid cs) ∷ l) (ends cs ∙ ap words_of (sym (past c cs (reach cs)))) ∙ ap (λ l. l ∷ words_of (drop (1 + reach cs) (c ∷ cs))) (sym (upto c cs (reach cs))) ∙ ap (λ k. take k (c ∷ cs) ∷ words_of (drop k (c ∷ cs))) (sym g)
 
-not_true : (b : Bool) → not b ≡ true → b ≡ false
-not_true true e = cc
-not_true false e = refl
-
 first_word : (s rest : List ℕ) → gap s < length s → rest ≡ drop (gap s) s → words_of s ≡ take (reach rest) rest ∷ words_of (drop (reach rest) rest)
 first_word s rest some is =
     let long : length rest ≡ length s - gap s = ap length is ∙ length-drop (gap s) s in
     let here : get_or rest 0 0 ≡ get_or s (gap s) 0 = ap (λ l. get_or l 0 0) is ∙ get_or-drop (gap s) s 0 0 ∙ ap (λ k. get_or s k 0) (add-zero (gap s)) in
-    let solid : blank (get_or rest 0 0) ≡ false = ap blank here ∙ not_true _ (passes_at_first (λ c. not (blank c)) s 0 some) in
+    let solid : blank (get_or rest 0 0) ≡ false = ap blank here ∙ not-true _ (passes_at_first (λ c. not (blank c)) s 0 some) in
     blanks s ∙ ap words_of (sym is) ∙ begins rest (omega arith) solid
 
 -- where `position` finds something, and its answer with the length for none

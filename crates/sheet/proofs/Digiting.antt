@@ -1,6 +1,6 @@
 -- What the loop that reads digits needs. Assumes nothing.
-use Rattle.std.proofs.Common.{◌≡◌, ℕ, ◌+◌, ◌*◌, ◌<◌, ◌≤◌, cond, ltb, List, [], ◌∷◌, length, get_or, drop, Some, None, sym, refl, ap, ◌∙◌, le-mul_of_pos_right, arith}
-use Rattle.std.proofs.lemmas.List.{at_drop_more, at_drop_all}
+use Rattle.std.proofs.Common.{◌≡◌, ℕ, ◌+◌, ◌*◌, ◌<◌, ◌≤◌, cond, ltb, List, [], ◌∷◌, length, get_or, drop, None, sym, refl, ap, ◌∙◌, le-mul_of_pos_right, arith}
+use Rattle.std.proofs.lemmas.List.{at_drop_more}
 use Rattle.std.proofs.lemmas.Bool.{cond-true, cond-false, cond_both, lt-ltb, le-ltb}
 use Rattle.std.proofs.lemmas.Bool.Decides.{nat_tests}
 use Rattle.std.specs.Char.{digit_value}
@@ -18,13 +18,8 @@ too_large base n (c ∷ cs) one big =
 same_worth : (base c : ℕ) → base ≤ 16 → digit_value c < base → digit c ≡ digit_value c
 same_worth base c few lt = grind (arith, nat_tests)
 
-pub all_read : (base : ℕ) (ds : List ℕ) (n i : ℕ) → short (following base n (drop i ds)) ≡ in_base base ds → n < 65536 → length ds ≤ i → Some n ≡ in_base base ds
-all_read base ds n i old small le =
-    let step : following base n (drop i ds) ≡ Some n = at_drop_all (following base n) ds i le in
-    sym (cond-true _ _ _ (lt-ltb n 65536 small)) ∙ sym (ap short step) ∙ old
-
 module _ (base : ℕ) (ds : List ℕ) (n i : ℕ) (old : short (following base n (drop i ds)) ≡ in_base base ds) (few : base ≤ 16) (lt : i < length ds) (d : ℕ) (is : d ≡ digit_value (get_or ds i 0)) (yea : d < base) where
-  pub one_more : short (following base (n * base + d) (drop (i + 1) ds)) ≡ in_base base ds
+  one_more : short (following base (n * base + d) (drop (i + 1) ds)) ≡ in_base base ds
   one_more =
       let e : digit (get_or ds i 0) ≡ d = same_worth base (get_or ds i 0) few (omega arith) ∙ sym is in
       let step : following base n (drop i ds) ≡ cond (ltb (digit (get_or ds i 0)) base) (following base (n * base + digit (get_or ds i 0)) (drop (i + 1) ds)) None = at_drop_more (following base n) ds i 0 lt in

@@ -1,4 +1,5 @@
 mod Cutting
 mod Digiting
 mod Listing
+mod Naming
 pub mod Hexing

@@ -1,6 +1,6 @@
 -- What a sheet says as a whole. Assumes nothing.
 use Rattle.std.specs.Prelude.{◌≡◌, ℕ, ◌+◌, Bool, true, false, cond, ◌&&◌, List, [], ◌∷◌, ◌++◌, map, is_some, Some, None, Ok, Err, vec_items, Option, Result}
-use Rattle.std.specs.Option.{option_map, unwrap_or}
+use Rattle.std.specs.Option.{unwrap_or}
 use Rattle.sheet.specs.declared.ChartName.{ChartName}
 use Rattle.sheet.specs.declared.ChartName.TheVariants.{Head}
 use Rattle.sheet.specs.declared.Fault.{Fault}
@@ -12,7 +12,6 @@ use Rattle.sheet.specs.declared.Mistake.TheVariants.{SecondBus, SecondChart, Lat
 use Rattle.sheet.specs.declared.Sheet.{Sheet}
 use Rattle.sheet.specs.declared.LineError.{LineError}
 use Rattle.sheet.specs.declared.LineError.TheVariants as line_error
-use Rattle.sheet.specs.declared.draft.Draft.{Draft}
 use Rattle.sheet.specs.Cut.{before, words_of, lines_of}
 use Rattle.sheet.specs.Said.{Asked, Said, bus, chart, marks, call, asked, statement_named}
 
@@ -23,9 +22,6 @@ pub record Sofar : Type 0 where
   pub marked : Bool
   pub marks : List ℕ
   pub calls : List Asked
-
-abbrev pub sofar : Draft → Sofar
-sofar d = record { make = d.make; name = d.chart; marked = is_some d.marks; marks = unwrap_or (option_map vec_items d.marks) []; calls = map asked (vec_items d.calls) }
 
 abbrev pub blank_sheet : Sofar
 blank_sheet = record { make = None; name = None; marked = false; marks = []; calls = [] }

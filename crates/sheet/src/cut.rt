@@ -25,6 +25,7 @@ impl<'a> Iterator for Lines<'a> {
 
     ghost remaining = { item_count (λ s. lines_of s.0.now) };
 
+    #[tactic(auto, using(crate::proofs::Cutting::first_line))]
     fn next(&mut self) -> Option<&'a [u8]> {
         if self.0.is_empty() {
             return None;

@@ -12,6 +12,7 @@ fn in_base(digits: &[u8], base: u16) -> Option<u16>
     }
     let mut n = 0u16;
     for c in digits {
+        // A digit is below the base, so nothing is lost.
         let digit = char::from(*c).to_digit(u32::from(base))? as u16;
         n = n.checked_mul(base)?.checked_add(digit)?;
     }

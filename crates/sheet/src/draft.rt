@@ -1,26 +1,38 @@
 // What a sheet has said so far.
 ghost use Rattle.std.specs.Prelude.{◌≡◌, cond, vec_items};
 ghost use Rattle.sheet.specs.Said.{Gives, map_ok, asked, said};
-ghost use Rattle.sheet.specs.Sheets.{sofar, blank_sheet, none, with_bus, with_chart, with_marks, with_call, taken, after_line, finished, Reads};
+ghost use Rattle.sheet.specs.Sheets.{blank_sheet, none, with_bus, with_chart, with_marks, with_call, taken, after_line, finished, Reads};
 
 use crate::cut::{Words, uncommented};
 use crate::line::{Statement, read_statement};
 use crate::{Call, ChartName, Fault, LineError, Make, Mistake, Sheet};
 use std::alloc::Global;
+use std::marker::Model;
 
 #[derive(Drop)]
 pub struct Draft {
-    pub heap: Global,
-    pub make: Option<Make>,
-    pub chart: Option<ChartName>,
+    heap: Global,
+    make: Option<Make>,
+    chart: Option<ChartName>,
     // Of all `marks` lines, where one came.
-    pub marks: Option<Vec<u8>>,
-    pub calls: Vec<Call>,
+    marks: Option<Vec<u8>>,
+    calls: Vec<Call>,
+}
+
+impl Model for Draft {
+    ghost use Rattle.std.specs.Prelude.{[], map, is_some, vec_items};
+    ghost use Rattle.std.specs.Option.{option_map, unwrap_or};
+    ghost use Rattle.sheet.specs.Said.{asked};
+    ghost use Rattle.sheet.specs.Sheets.{Sofar};
+
+    ghost Value = { Sofar };
+
+    ghost view = { λ d. record { make = d.make; name = d.chart; marked = is_some d.marks; marks = unwrap_or (option_map vec_items d.marks) []; calls = map asked (vec_items d.calls) } };
 }
 
 impl Draft {
     pub fn new(heap: Global) -> Draft
-        ensures { sofar result ≡ blank_sheet }
+        ensures { result ≡ blank_sheet }
     {
         Draft {
             heap,
@@ -33,7 +45,7 @@ impl Draft {
 
     // Whether an opening line may still come.
     fn opening(&self) -> Result<(), Mistake>
-        ensures { result ≡ cond (none (sofar self.now).calls) (Ok tt) (Err Mistake.LateOpening) }
+        ensures { result ≡ cond (none self.now.calls) (Ok tt) (Err Mistake.LateOpening) }
     {
         if self.calls.is_empty() {
             Ok(())
@@ -43,7 +55,7 @@ impl Draft {
     }
 
     fn bus(&mut self, make: Make) -> Result<(), Mistake>
-        ensures { map_ok (λ _. sofar self.new) result ≡ with_bus (sofar self.old) make }
+        ensures { map_ok (λ _. self.new) result ≡ with_bus self.old make }
     {
         self.opening()?;
         if self.make.is_some() {
@@ -57,7 +69,7 @@ impl Draft {
     }
 
     fn chart(&mut self, name: ChartName) -> Result<(), Mistake>
-        ensures { map_ok (λ _. sofar self.new) result ≡ with_chart (sofar self.old) name }
+        ensures { map_ok (λ _. self.new) result ≡ with_chart self.old name }
     {
         self.opening()?;
         if self.chart.is_some() {
@@ -68,7 +80,7 @@ impl Draft {
     }
 
     fn marks(&mut self, marks: Vec<u8>) -> Result<(), LineError>
-        ensures { Gives (λ _. sofar self.new) result (with_marks (sofar self.old) (vec_items marks)) }
+        ensures { Gives (λ _. self.new) result (with_marks self.old (vec_items marks)) }
     {
         self.opening()?;
         if matches!(self.make, Some(Make::Window)) {
@@ -82,7 +94,7 @@ impl Draft {
     }
 
     fn call(&mut self, call: Call) -> Result<(), LineError>
-        ensures { Gives (λ _. sofar self.new) result (with_call (sofar self.old) (asked call)) }
+        ensures { Gives (λ _. self.new) result (with_call self.old (asked call)) }
     {
         if self.make.is_none() {
             return Err(LineError::Wrong(Mistake::NoBus));
@@ -92,7 +104,7 @@ impl Draft {
     }
 
     fn take(&mut self, statement: Statement) -> Result<(), LineError>
-        ensures { Gives (λ _. sofar self.new) result (taken (sofar self.old) (said statement)) }
+        ensures { Gives (λ _. self.new) result (taken self.old (said statement)) }
     {
         match statement {
             Statement::Bus(make) => Ok(self.bus(make)?),
@@ -104,7 +116,7 @@ impl Draft {
 
     // Takes what a line says.
     pub fn line(&mut self, line: &[u8]) -> Result<(), LineError>
-        ensures { Gives (λ _. sofar self.new) result (after_line (sofar self.old) line.now) }
+        ensures { Gives (λ _. self.new) result (after_line self.old line.now) }
     {
         let mut words = Words(uncommented(line));
         let Some(name) = words.next() else {
@@ -116,7 +128,7 @@ impl Draft {
 
     // The sheet, where the text ends before this line.
     pub fn finish(self, line: usize) -> Result<Sheet, Fault>
-        ensures { Reads result (finished line (sofar self)) }
+        ensures { Reads result (finished line self) }
     {
         let mistake = Mistake::NoBus;
         let make = self.make.ok_or(Fault::Wrong { line, mistake })?;

@@ -61,6 +61,7 @@ pub enum Call {
 impl fmt::Display for Call {
     ghost output = { λ c. Some (call_text (asked c)) };
 
+    #[tactic(auto, using(std::proofs::lemmas::Grind::common_steps, crate::proofs::Hexing::word_written))]
     fn fmt<W: fmt::Write>(&self, f: &mut fmt::Formatter<W>) -> fmt::Result {
         match self {
             Call::Get { raw } => write!(f, "get {raw}"),
@@ -168,6 +169,7 @@ impl LineError {
 }
 
 // Reads a sheet line by line, up to its first mistake.
+#[tactic(auto, using(crate::proofs::Cutting::few_lines))]
 pub fn read(heap: Global, text: &[u8]) -> Result<Sheet, Fault>
     ensures { Reads result (sheet_of text.now) }
 {

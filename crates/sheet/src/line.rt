@@ -1,7 +1,7 @@
 // Reads the words of one line.
 ghost use Rattle.std.specs.Prelude.{◌≡◌, ℕ, List, Result, vec_items};
 ghost use Rattle.sheet.specs.Cut.{words_of};
-ghost use Rattle.sheet.specs.Said.{Gives, exactly, all_of, asked, said, map_ok, call_named, statement_named, bus_of, chart_of, get_of, put_of, measure_of, number_of, mark_of};
+ghost use Rattle.sheet.specs.Said.{Gives, exactly, all_of, asked, said, map_ok, call_named, statement_named, bus_of, chart_of, marks_of, get_of, put_of, measure_of, number_of, mark_of};
 
 use crate::cut::Words;
 use crate::digits::number;
@@ -29,6 +29,7 @@ fn a_mark(word: &[u8]) -> Result<u8, Mistake>
 }
 
 // The `N` numbers of a line that has just so many words left.
+#[tactic(auto, using(crate::proofs::Cutting::few_after))]
 fn numbers<const N: usize>(rest: &[u8]) -> Result<[u16; N], Mistake>
     ensures { result ≡ exactly N (words_of rest.now) }
 {
@@ -59,6 +60,7 @@ fn all<T: Drop, F: Fn(&[u8]) -> Result<T, Mistake>>(
     Ok(all)
 }
 
+#[tactic(auto, using(crate::proofs::Naming::names))]
 fn bus(rest: &[u8]) -> Result<Make, Mistake>
     ensures { result ≡ bus_of (words_of rest.now) }
 {
@@ -90,6 +92,12 @@ fn chart(rest: &[u8]) -> Result<ChartName, Mistake>
     }
 }
 
+fn marks(heap: Global, rest: &[u8]) -> Result<Vec<u8>, LineError>
+    ensures { Gives vec_items result (marks_of (words_of rest.now)) }
+{
+    all(heap, rest, a_mark)
+}
+
 fn get(rest: &[u8]) -> Result<Call, Mistake>
     ensures { map_ok asked result ≡ get_of (words_of rest.now) }
 {
@@ -113,6 +121,7 @@ fn measure(rest: &[u8]) -> Result<Call, Mistake>
     Ok(Call::Measure { register, word })
 }
 
+#[tactic(auto, using(crate::proofs::Naming::names))]
 fn read_call(heap: Global, name: &[u8], rest: &[u8]) -> Result<Call, LineError>
     ensures { Gives asked result (call_named name.now (words_of rest.now)) }
 {
@@ -133,13 +142,14 @@ fn read_call(heap: Global, name: &[u8], rest: &[u8]) -> Result<Call, LineError>
 }
 
 // The statement that a name begins.
+#[tactic(auto, using(crate::proofs::Naming::names))]
 pub fn read_statement(heap: Global, name: &[u8], rest: &[u8]) -> Result<Statement, LineError>
     ensures { Gives said result (statement_named name.now (words_of rest.now)) }
 {
     match name {
         b"bus" => Ok(Statement::Bus(bus(rest)?)),
         b"chart" => Ok(Statement::Chart(chart(rest)?)),
-        b"marks" => Ok(Statement::Marks(all(heap, rest, a_mark)?)),
+        b"marks" => Ok(Statement::Marks(marks(heap, rest)?)),
         _ => Ok(Statement::Call(read_call(heap, name, rest)?)),
     }
 }

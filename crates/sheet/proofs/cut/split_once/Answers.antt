@@ -9,14 +9,8 @@ use Rattle.sheet.proofs.cut.split_once.Goals.{After-position}
 at : (c : After-position) → c.position.result ≡ position (λ x. eqb x c.args.b) c.args.s.now
 at c = position_from_yields_List (λ x. eqb x c.args.b) _ _ _ c.position.ensures.ran (YieldsList-from_slice c.args.s.now cc) (λ x b q k. search rules)
 
-pub returns-in-Some-clause-front : goal.returns-in-Some-clause-front
-returns-in-Some-clause-front c = grind (arith, common_steps, at (goal.at.returns-in-Some-clause-front c).After-position)
+pub returns-in-Some : goal.returns-in-Some
+returns-in-Some c = grind (arith, common_steps, at (goal.at.returns-in-Some c).After-position)
 
-pub returns-in-Some-clause-back : goal.returns-in-Some-clause-back
-returns-in-Some-clause-back c = grind (arith, common_steps, at (goal.at.returns-in-Some-clause-back c).After-position)
-
-pub returns-in-None-clause-front : goal.returns-in-None-clause-front
-returns-in-None-clause-front c = grind (arith, common_steps, at (goal.at.returns-in-None-clause-front c).After-position)
-
-pub returns-in-None-clause-back : goal.returns-in-None-clause-back
-returns-in-None-clause-back c = grind (arith, common_steps, at (goal.at.returns-in-None-clause-back c).After-position)
+pub returns-in-None : goal.returns-in-None
+returns-in-None c = grind (arith, common_steps, at (goal.at.returns-in-None c).After-position)

@@ -1,21 +1,19 @@
-use Rattle.std.proofs.Common.{◌≡◌, length, true, arith, refl, ap, inl}
+use Rattle.std.proofs.Common.{◌≡◌, length, arith, refl}
 use Rattle.std.proofs.lemmas.Grind.{common_steps}
 use Rattle.std.proofs.lemmas.Iterator.Consumers.{YieldsList-from_first, count_from_yields_List}
 use Rattle.sheet.specs.Cut.{words_of}
-use Rattle.sheet.specs.Said.{numbers_of}
-use Rattle.sheet.proofs.Cutting.{few_after}
-use Rattle.sheet.proofs.Listing.{onto_none, ends}
+use Rattle.sheet.proofs.Listing.{onto_none}
 use Rattle.sheet.proofs.line.numbers.Goals as goal
+use Rattle.sheet.proofs.line.numbers.Goals.{After-count}
+use Rattle.sheet.proofs.line.numbers.Given as given
 
-pub count-requires-clause-fits : goal.count-requires-clause-fits
-count-requires-clause-fits g c = inl (omega (arith, few_after true c.args.rest.now))
+counted : (g : given.Over) (c : After-count g) → c.count.result ≡ length (words_of c.args.rest.now)
+counted g c = count_from_yields_List _ _ c.count.ensures.ran (YieldsList-from_first (λ x. x.now) (λ s. words_of s.0.now) (words_of c.args.rest.now) refl)
 
 pub loop-i-init : goal.loop-i-init
 loop-i-init g c =
-    let n : c.count.result ≡ length (words_of c.args.rest.now) = count_from_yields_List _ _ c.count.ensures.ran (YieldsList-from_first (λ x. x.now) (λ s. words_of s.0.now) (words_of c.args.rest.now) refl) in
-    record { room = grind (arith, common_steps, n); same = rw (c.into_iter-i-iterator.ensures.into_iter_gives, c.enumerate-i-items.ensures.source, c.enumerate-i-items.ensures.count) (onto_none (numbers_of (words_of c.args.rest.now))) }
+    let n = counted g (goal.at.loop-i-init g c).After-count in
+    record { room = grind (arith, common_steps, n); same = grind (arith, common_steps, onto_none) }
 
 pub returns : goal.returns
-returns g c =
-    let n : c.count.result ≡ length (words_of c.args.rest.now) = count_from_yields_List _ _ c.count.ensures.ran (YieldsList-from_first (λ x. x.now) (λ s. words_of s.0.now) (words_of c.args.rest.now) refl) in
-    let h = ends _ _ _ c.loop-i.invariant.same (ap numbers_of c.in-None.ensures.steps.0.0) in grind (arith, common_steps, n, h)
+returns g c = grind (arith, common_steps, counted g (goal.at.returns g c).After-count)
