@@ -15,15 +15,15 @@ too_large base n (c ∷ cs) one big =
     (λ _. refl)
 
 -- a digit of a base up to 16 is worth what the library says
-same_worth : (base c : ℕ) → base ≤ 16 → digit_value c < base → digit c ≡ digit_value c
+pub same_worth : (base c : ℕ) → base ≤ 16 → digit_value c < base → digit c ≡ digit_value c
 same_worth base c few lt = grind (arith, nat_tests)
 
-module _ (base : ℕ) (ds : List ℕ) (n i : ℕ) (old : short (following base n (drop i ds)) ≡ in_base base ds) (few : base ≤ 16) (lt : i < length ds) (d : ℕ) (is : d ≡ digit_value (get_or ds i 0)) (yea : d < base) where
+module _ (base : ℕ) (ds : List ℕ) (n i : ℕ) (old : short (following base n (drop i ds)) ≡ in_base base ds) (lt : i < length ds) (d : ℕ) (is : d ≡ digit (get_or ds i 0)) (yea : d < base) where
   one_more : short (following base (n * base + d) (drop (i + 1) ds)) ≡ in_base base ds
   one_more =
-      let e : digit (get_or ds i 0) ≡ d = same_worth base (get_or ds i 0) few (omega arith) ∙ sym is in
-      let step : following base n (drop i ds) ≡ cond (ltb (digit (get_or ds i 0)) base) (following base (n * base + digit (get_or ds i 0)) (drop (i + 1) ds)) None = at_drop_more (following base n) ds i 0 lt in
-      let on : following base n (drop i ds) ≡ following base (n * base + d) (drop (i + 1) ds) = step ∙ cond-true _ _ _ (lt-ltb (digit (get_or ds i 0)) base (omega arith)) ∙ ap (λ k. following base (n * base + k) (drop (i + 1) ds)) e in
+      let x = digit (get_or ds i 0) in
+      let step : following base n (drop i ds) ≡ cond (ltb x base) (following base (n * base + x) (drop (i + 1) ds)) None = at_drop_more (following base n) ds i 0 lt in
+      let on : following base n (drop i ds) ≡ following base (n * base + d) (drop (i + 1) ds) = step ∙ cond-true _ _ _ (lt-ltb x base (omega arith)) ∙ ap (λ k. following base (n * base + k) (drop (i + 1) ds)) (sym is) in
       sym (ap short on) ∙ old
 
   pub grown : 1 ≤ base → 65536 ≤ n * base + d → None ≡ in_base base ds

@@ -1,6 +1,19 @@
 // Numbers as a sheet writes them.
-ghost use Rattle.std.specs.Prelude.{◌≡◌, ◌≤◌};
-ghost use Rattle.sheet.specs.Numeral.{in_base, numeral};
+ghost use Rattle.std.specs.Prelude.{◌≡◌, ◌<◌, ◌≤◌, MatchOption};
+ghost use Rattle.sheet.specs.Numeral.{digit, in_base, numeral};
+
+// What a digit is worth, if it is one of the base.
+#[tactic(auto, using(crate::proofs::Digiting::same_worth))]
+fn digit(c: u8, base: u16) -> Option<u16>
+    requires some { 2 ≤ base }
+    requires few { base ≤ 16 }
+    ensures { MatchOption result (base ≤ digit c) (λ d. (d ≡ digit c) × (d < base)) }
+{
+    // It is below the base, so nothing is lost.
+    char::from(c)
+        .to_digit(u32::from(base))
+        .map(|digit| digit as u16)
+}
 
 fn in_base(digits: &[u8], base: u16) -> Option<u16>
     requires some { 2 ≤ base }
@@ -12,9 +25,8 @@ fn in_base(digits: &[u8], base: u16) -> Option<u16>
     }
     let mut n = 0u16;
     for c in digits {
-        // A digit is below the base, so nothing is lost.
-        let digit = char::from(*c).to_digit(u32::from(base))? as u16;
-        n = n.checked_mul(base)?.checked_add(digit)?;
+        let worth = digit(*c, base)?;
+        n = n.checked_mul(base)?.checked_add(worth)?;
     }
     Some(n)
 }
