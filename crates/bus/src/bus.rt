@@ -18,6 +18,7 @@ pub trait Bus {
     // All that a bus remembers.
     ghost Model: { Type 0 };
 
+    // A clause of a trait sees a value through its members alone, so each goes through this one.
     ghost model: { Self → Model };
 
     // What each call does, by the classes and the reset words of any chart. The clauses put in its own: a member that has them in it would

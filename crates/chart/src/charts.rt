@@ -4,6 +4,7 @@ ghost use Rattle.std.proofs.Common.{rules};
 
 use crate::class::{Chart, Class};
 
+#[derive(Debug, Clone, Copy, PartialEq, Eq)]
 pub struct Head;
 
 impl Chart for Head {
@@ -34,6 +35,7 @@ impl Chart for Head {
     }
 }
 
+#[derive(Debug, Clone, Copy, PartialEq, Eq)]
 pub struct Valve;
 
 impl Chart for Valve {

@@ -1,4 +1,4 @@
-// The words of a chip, as a slice: 129 words, of which 0 to 127 are its registers by number and 128 is
+// The words of a chip, as a slice of any length, since an array would ask more of callers: 129 words, of which 0 to 127 are its registers by number and 128 is
 // the selector. A place past the slice's end reads as 0, and what is stored there is dropped.
 ghost use Rattle.std.specs.Prelude.{◌≡◌, length, slice_index, slice_set};
 ghost use Rattle.chip.specs.Words.{placed, loaded, stored_at, fresh};
@@ -62,7 +62,8 @@ pub fn set_register(words: &mut [u16], register: u16, word: u16)
     set_word(words, usize::from(register), word);
 }
 
-// The reset word of a place; what no register can have as its number is absent.
+// The reset word of a place; what no register can have as its number is absent. What it shares with `class_of` of crate port is
+// `map_or`, with a closure, since a method of a bound is not yet covered as an argument.
 fn reset_word<C: Chart>(place: usize) -> u16
     ensures { result ≡ C.Chart.resets place }
 {

@@ -1,5 +1,5 @@
 // The line list: what goes wrong in each transfer.
-ghost use Rattle.std.specs.Prelude.{◌≡◌, not};
+ghost use Rattle.std.specs.Prelude.{◌≡◌, ◌+◌, ◌^◌, ◌<◌, length, not};
 ghost use Rattle.wire.specs.Frames.{good};
 ghost use Rattle.bus.specs.I2cs.{first_mark, drawn, new_line};
 
@@ -56,7 +56,8 @@ impl<'a> Line<'a> {
     }
 
     pub fn failed(&self) -> u64
-        ensures { result ≡ self.now.failed }
+        ensures value { result ≡ self.now.failed }
+        ensures counted { self.now.failed + length self.now.marks < 2 ^ 64 }
     {
         self.failed
     }

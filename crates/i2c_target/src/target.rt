@@ -44,7 +44,7 @@ pub fn read_byte(address: u8) -> u8
     write_byte(address) + 1
 }
 
-// A word from its two bytes.
+// A word from its two bytes. It and `bytes_of` stand round one call each, so that what that call means is said once.
 pub fn word_of(high: u8, low: u8) -> u16
     ensures { result ≡ high * 256 + low }
 {

@@ -40,7 +40,8 @@ impl Register {
     }
 }
 
-// The clauses go through `paging_model`, since the `Value` of a model cannot yet be a type among a bound's members.
+// The clauses go through `paging_model`, since the `Value` of a model cannot yet be a type among a bound's members, and name
+// the steps at the bus's own chart each time, as in `Bus`.
 impl<B: Bus> Paging<B> {
     // Over a new bus this is a new port.
     pub fn new(bus: B) -> Paging<B>

@@ -11,6 +11,7 @@ use std::alloc::{AllocError, Global};
 // What a call answered: a word, or nothing more than yes, or why not.
 pub type Answer = Result<Option<u16>, Refusal<Failure>>;
 
+// One call. The clauses name the steps at the bus's own chart, as in `Bus`.
 pub fn perform<B: Bus>(bus: &mut B, call: &Call) -> Answer
     ensures { (answer_reply result, B.Bus.model bus.new) ≡ performed (B.Bus.steps B.Chart.Chart.classed B.Chart.Chart.resets) (asked call.now) (B.Bus.model bus.old) }
 {

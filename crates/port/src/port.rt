@@ -28,6 +28,7 @@ pub trait Port {
     // All that the port and what is below it remember.
     ghost Model: { Type 0 };
 
+    // Each clause goes through this, as on a bus.
     ghost model: { Self → Model };
 
     // What each call does, by the classes and the reset words of any chart, as on a bus.

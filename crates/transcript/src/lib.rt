@@ -66,10 +66,7 @@ fn play_on<C: Chart>(heap: Global, sheet: &Sheet) -> Result<String, AllocError>
     let calls = sheet.calls.as_slice();
     match sheet.make {
         Make::I2c(address) => {
-            let Some(room) = room(calls) else {
-                return Err(AllocError);
-            };
-            let trace = Trace::new(heap, room)?;
+            let trace = Trace::new(heap, room(calls).ok_or(AllocError)?)?;
             let made = I2c::<C>::new(address, sheet.marks.as_slice(), trace);
             play(heap, made, calls)
         }
