@@ -1,7 +1,7 @@
 // Performs a bench sheet on a simulated chip, and writes down what each call answered and what passed on the wire.
 #![tactic(auto)]
 
-ghost use Rattle.std.specs.Prelude.{◌≡◌, map, IfSome, IfOk, MatchResult, string_bytes};
+ghost use Rattle.std.specs.Prelude.{◌≡◌, map, IfOk, MatchResult, string_bytes};
 ghost use Rattle.chart.specs.Replies.{told, failure_values};
 ghost use Rattle.sheet.specs.Said.{asked};
 ghost use Rattle.sheet.specs.Sheets.{whole};
@@ -33,13 +33,14 @@ fn room_of(call: &Call) -> usize
     }
 }
 
-// The room that all frames of the calls need, if there can be so much.
-fn room(calls: &[Call]) -> Option<usize>
-    ensures { IfSome result (λ n. n ≡ sheet_room (map asked calls.now)) }
+// The room that all frames of the calls need; where a number cannot tell it, there is no memory for it.
+fn room(calls: &[Call]) -> Result<usize, AllocError>
+    ensures { IfOk result (λ n. n ≡ sheet_room (map asked calls.now)) }
 {
     calls
         .iter()
         .try_fold(0usize, |all, call| all.checked_add(room_of(call)))
+        .ok_or(AllocError)
 }
 
 // Performs calls on a bus, where one was made.
@@ -66,7 +67,7 @@ fn play_on<C: Chart>(heap: Global, sheet: &Sheet) -> Result<String, AllocError>
     let calls = sheet.calls.as_slice();
     match sheet.make {
         Make::I2c(address) => {
-            let trace = Trace::new(heap, room(calls).ok_or(AllocError)?)?;
+            let trace = Trace::new(heap, room(calls)?)?;
             let made = I2c::<C>::new(address, sheet.marks.as_slice(), trace);
             play(heap, made, calls)
         }
