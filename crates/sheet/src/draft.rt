@@ -122,7 +122,7 @@ impl Draft {
         let Some(name) = words.next() else {
             return Ok(());
         };
-        let statement = read_statement(self.heap, name, words.0)?;
+        let statement = read_statement(self.heap, name, words)?;
         self.take(statement)
     }
 
