@@ -37,7 +37,7 @@ fn numbers<const N: usize>(words: Words) -> Result<[u16; N], Mistake>
         return Err(Mistake::WordCount);
     }
     let mut numbers = [0; N];
-    // By the index, since a proof learns nothing of what a `zip` of `iter_mut` wrote.
+    // By the index: a `zip` of `iter_mut` does not say what it wrote; `try_from_fn` asks that `N` slots fit, and ties no call to the next.
     for (i, word) in words.enumerate() {
         numbers[i] = a_number(word)?;
     }
@@ -53,6 +53,7 @@ fn all<T: Drop, F: Fn(&[u8]) -> Result<T, Mistake>>(
     requires { F.IsAlwaysCallable read }
     ensures { (f : List ℕ → Result T Mistake) → ((w : _) (r : _) → F.post read w r → r ≡ f w.now) → Gives vec_items result (all_of f (words_of words.entry.0.now)) }
 {
+    // No plainer by `try_collect`: its closure makes each mistake a `LineError`, and search does not find that the first one is told.
     let mut all = Vec::new(heap);
     for word in words {
         all.push(read(word)?)?;

@@ -1,8 +1,9 @@
-use Rattle.std.proofs.Common.{◌∙◌, rules, tests, arith}
+use Rattle.std.proofs.Common.{◌∙◌, arith}
 use Rattle.std.proofs.lemmas.Grind.{common_steps}
 use Rattle.std.proofs.lemmas.Bool.Decides.{nat_tests}
 use Rattle.std.proofs.lemmas.Iterator.{YieldsList-from_slice}
-use Rattle.sheet.proofs.Digiting.{one_more, onward_from_try_fold, folded}
+use Rattle.sheet.proofs.Digiting.{one_more, folded}
+use Rattle.sheet.proofs.Folding.{onward_from_try_fold}
 use Rattle.sheet.proofs.digits.in_base.Goals as goal
 
 pub returns : goal.returns
