@@ -4,6 +4,7 @@ ghost use Rattle.std.specs.Iterator.{YieldsFirstRef, item_count};
 ghost use Rattle.sheet.specs.Cut.{before, after, blank, lines_of, words_of};
 
 // What stands before the first `b`, and what stands after it.
+// Slices have no `split_once`, and the second piece of `split` ends at the next `b`.
 fn split_once(s: &[u8], b: u8) -> (&[u8], &[u8])
     ensures front { result.0.now ≡ before b s.now }
     ensures back { result.1.now ≡ after b s.now }
@@ -15,6 +16,7 @@ fn split_once(s: &[u8], b: u8) -> (&[u8], &[u8])
 }
 
 // The lines of a text. A line end at its end begins no other line.
+// The slice's `split` yields an empty line there, and `split_inclusive` keeps the line ends.
 #[derive(Drop)]
 pub struct Lines<'a>(pub &'a [u8]);
 
@@ -50,6 +52,7 @@ fn is_blank(c: u8) -> bool
 }
 
 // The words of a line.
+// The slice's `split` yields an empty word between two blanks, and with a `filter` on it there is no type to name.
 #[derive(Drop)]
 pub struct Words<'a>(pub &'a [u8]);
 

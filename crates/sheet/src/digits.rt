@@ -23,12 +23,10 @@ fn in_base(digits: &[u8], base: u16) -> Option<u16>
     if digits.is_empty() {
         return None;
     }
-    let mut n = 0u16;
-    for c in digits {
-        let worth = digit(*c, base)?;
-        n = n.checked_mul(base)?.checked_add(worth)?;
-    }
-    Some(n)
+    digits.iter().try_fold(
+        0u16,
+        |n, c| n.checked_mul(base)?.checked_add(digit(*c, base)?),
+    )
 }
 
 // The number that a word writes: decimal, or hexadecimal after `0x`.

@@ -58,6 +58,7 @@ impl Draft {
         ensures { map_ok (λ _. self.new) result ≡ with_bus self.old make }
     {
         self.opening()?;
+        // No helper with `chart`: the marks are tested between the refusal of a second and the setting.
         if self.make.is_some() {
             return Err(Mistake::SecondBus);
         }
@@ -122,7 +123,7 @@ impl Draft {
         let Some(name) = words.next() else {
             return Ok(());
         };
-        let statement = read_statement(self.heap, name, words.0)?;
+        let statement = read_statement(self.heap, name, words)?;
         self.take(statement)
     }
 

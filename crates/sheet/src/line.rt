@@ -30,15 +30,15 @@ fn a_mark(word: &[u8]) -> Result<u8, Mistake>
 
 // The `N` numbers of a line that has just so many words left.
 #[tactic(auto, using(crate::proofs::Cutting::few_after))]
-fn numbers<const N: usize>(rest: &[u8]) -> Result<[u16; N], Mistake>
-    ensures { result ≡ exactly N (words_of rest.now) }
+fn numbers<const N: usize>(words: Words) -> Result<[u16; N], Mistake>
+    ensures { result ≡ exactly N (words_of words.entry.0.now) }
 {
-    if Words(rest).count() != N {
+    if Words(words.0).count() != N {
         return Err(Mistake::WordCount);
     }
     let mut numbers = [0; N];
-    // By the index, since a proof learns nothing of what a `zip` of `iter_mut` wrote.
-    for (i, word) in Words(rest).enumerate() {
+    // By the index: a `zip` of `iter_mut` does not say what it wrote; `try_from_fn` asks that `N` slots fit, and ties no call to the next.
+    for (i, word) in words.enumerate() {
         numbers[i] = a_number(word)?;
     }
     Ok(numbers)
@@ -47,41 +47,40 @@ fn numbers<const N: usize>(rest: &[u8]) -> Result<[u16; N], Mistake>
 // What each word says, where `read` reads one.
 fn all<T: Drop, F: Fn(&[u8]) -> Result<T, Mistake>>(
     heap: Global,
-    rest: &[u8],
+    words: Words,
     read: F,
 ) -> Result<Vec<T>, LineError>
     requires { F.IsAlwaysCallable read }
-    ensures { (f : List ℕ → Result T Mistake) → ((w : _) (r : _) → F.post read w r → r ≡ f w.now) → Gives vec_items result (all_of f (words_of rest.now)) }
+    ensures { (f : List ℕ → Result T Mistake) → ((w : _) (r : _) → F.post read w r → r ≡ f w.now) → Gives vec_items result (all_of f (words_of words.entry.0.now)) }
 {
+    // No plainer by `try_collect`: its closure makes each mistake a `LineError`, and search does not find that the first one is told.
     let mut all = Vec::new(heap);
-    for word in Words(rest) {
+    for word in words {
         all.push(read(word)?)?;
     }
     Ok(all)
 }
 
 #[tactic(auto, using(crate::proofs::Naming::names))]
-fn bus(rest: &[u8]) -> Result<Make, Mistake>
-    ensures { result ≡ bus_of (words_of rest.now) }
+fn bus(mut words: Words) -> Result<Make, Mistake>
+    ensures { result ≡ bus_of (words_of words.entry.0.now) }
 {
-    let mut words = Words(rest);
     match words.next().ok_or(Mistake::WordCount)? {
         b"i2c" => {
-            let [address] = numbers::<1>(words.0)?;
+            let [address] = numbers::<1>(words)?;
             Ok(Make::I2c(address))
         }
         b"window" => {
-            let [] = numbers::<0>(words.0)?;
+            let [] = numbers::<0>(words)?;
             Ok(Make::Window)
         }
         _ => Err(Mistake::UnknownBus),
     }
 }
 
-fn chart(rest: &[u8]) -> Result<ChartName, Mistake>
-    ensures { result ≡ chart_of (words_of rest.now) }
+fn chart(mut words: Words) -> Result<ChartName, Mistake>
+    ensures { result ≡ chart_of (words_of words.entry.0.now) }
 {
-    let mut words = Words(rest);
     let (Some(name), None) = (words.next(), words.next()) else {
         return Err(Mistake::WordCount);
     };
@@ -92,49 +91,48 @@ fn chart(rest: &[u8]) -> Result<ChartName, Mistake>
     }
 }
 
-fn marks(heap: Global, rest: &[u8]) -> Result<Vec<u8>, LineError>
-    ensures { Gives vec_items result (marks_of (words_of rest.now)) }
+fn marks(heap: Global, words: Words) -> Result<Vec<u8>, LineError>
+    ensures { Gives vec_items result (marks_of (words_of words.entry.0.now)) }
 {
-    all(heap, rest, a_mark)
+    all(heap, words, a_mark)
 }
 
-fn get(rest: &[u8]) -> Result<Call, Mistake>
-    ensures { map_ok asked result ≡ get_of (words_of rest.now) }
+fn get(words: Words) -> Result<Call, Mistake>
+    ensures { map_ok asked result ≡ get_of (words_of words.entry.0.now) }
 {
-    let [raw] = numbers::<1>(rest)?;
+    let [raw] = numbers::<1>(words)?;
     Ok(Call::Get { raw })
 }
 
-fn put(heap: Global, rest: &[u8]) -> Result<Call, LineError>
-    ensures { Gives asked result (put_of (words_of rest.now)) }
+fn put(heap: Global, mut words: Words) -> Result<Call, LineError>
+    ensures { Gives asked result (put_of (words_of words.entry.0.now)) }
 {
-    let mut words = Words(rest);
     let raw = a_number(words.next().ok_or(Mistake::WordCount)?)?;
-    let words = all(heap, words.0, a_number)?;
+    let words = all(heap, words, a_number)?;
     Ok(Call::Put { raw, words })
 }
 
-fn measure(rest: &[u8]) -> Result<Call, Mistake>
-    ensures { map_ok asked result ≡ measure_of (words_of rest.now) }
+fn measure(words: Words) -> Result<Call, Mistake>
+    ensures { map_ok asked result ≡ measure_of (words_of words.entry.0.now) }
 {
-    let [register, word] = numbers::<2>(rest)?;
+    let [register, word] = numbers::<2>(words)?;
     Ok(Call::Measure { register, word })
 }
 
 #[tactic(auto, using(crate::proofs::Naming::names))]
-fn read_call(heap: Global, name: &[u8], rest: &[u8]) -> Result<Call, LineError>
-    ensures { Gives asked result (call_named name.now (words_of rest.now)) }
+fn read_call(heap: Global, name: &[u8], words: Words) -> Result<Call, LineError>
+    ensures { Gives asked result (call_named name.now (words_of words.entry.0.now)) }
 {
     match name {
-        b"get" => Ok(get(rest)?),
-        b"put" => put(heap, rest),
-        b"measure" => Ok(measure(rest)?),
+        b"get" => Ok(get(words)?),
+        b"put" => put(heap, words),
+        b"measure" => Ok(measure(words)?),
         b"down" => {
-            let [] = numbers::<0>(rest)?;
+            let [] = numbers::<0>(words)?;
             Ok(Call::Down)
         }
         b"up" => {
-            let [] = numbers::<0>(rest)?;
+            let [] = numbers::<0>(words)?;
             Ok(Call::Up)
         }
         _ => Err(LineError::Wrong(Mistake::UnknownStatement)),
@@ -143,13 +141,13 @@ fn read_call(heap: Global, name: &[u8], rest: &[u8]) -> Result<Call, LineError>
 
 // The statement that a name begins.
 #[tactic(auto, using(crate::proofs::Naming::names))]
-pub fn read_statement(heap: Global, name: &[u8], rest: &[u8]) -> Result<Statement, LineError>
-    ensures { Gives said result (statement_named name.now (words_of rest.now)) }
+pub fn read_statement(heap: Global, name: &[u8], words: Words) -> Result<Statement, LineError>
+    ensures { Gives said result (statement_named name.now (words_of words.entry.0.now)) }
 {
     match name {
-        b"bus" => Ok(Statement::Bus(bus(rest)?)),
-        b"chart" => Ok(Statement::Chart(chart(rest)?)),
-        b"marks" => Ok(Statement::Marks(marks(heap, rest)?)),
-        _ => Ok(Statement::Call(read_call(heap, name, rest)?)),
+        b"bus" => Ok(Statement::Bus(bus(words)?)),
+        b"chart" => Ok(Statement::Chart(chart(words)?)),
+        b"marks" => Ok(Statement::Marks(marks(heap, words)?)),
+        _ => Ok(Statement::Call(read_call(heap, name, words)?)),
     }
 }

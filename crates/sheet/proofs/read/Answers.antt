@@ -2,6 +2,7 @@ use Rattle.std.proofs.Common.{true, arith, inl}
 use Rattle.sheet.proofs.Cutting.{few_lines}
 use Rattle.sheet.proofs.read.Goals as goal
 
+-- `using` at `read` serves its other goals; here `omega` needs the fact by hand, as `search` finds nothing
 pub loop-i-init-derived : goal.loop-i-init-derived
 loop-i-init-derived c =
     let few = few_lines true c.args.text.now in

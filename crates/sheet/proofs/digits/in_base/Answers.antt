@@ -1,13 +1,12 @@
-use Rattle.std.proofs.Common.{arith}
-use Rattle.sheet.proofs.Digiting.{grown}
+use Rattle.std.proofs.Common.{◌∙◌, arith}
+use Rattle.std.proofs.lemmas.Grind.{common_steps}
+use Rattle.std.proofs.lemmas.Bool.Decides.{nat_tests}
+use Rattle.std.proofs.lemmas.Iterator.{YieldsList-from_slice}
+use Rattle.sheet.proofs.Digiting.{one_more, folded}
+use Rattle.sheet.proofs.Folding.{onward_from_try_fold}
 use Rattle.sheet.proofs.digits.in_base.Goals as goal
 
-pub returns-in_err-checked_mul : goal.returns-in_err-checked_mul
-returns-in_err-checked_mul c =
-    let d = c.in_ok-worth.ensures in
-    let h = grown c.args.base c.args.digits.now c.loop-c.n c.loop-c.c-index c.loop-c.invariant.1 c.loop-c-test.true c.in_ok-worth.worth d.0 d.1 (omega arith) (omega (arith, c.in_err-checked_mul.ensures)) in cc
-
-pub returns-in_err-n : goal.returns-in_err-n
-returns-in_err-n c =
-    let d = c.in_ok-worth.ensures in
-    let h = grown c.args.base c.args.digits.now c.loop-c.n c.loop-c.c-index c.loop-c.invariant.1 c.loop-c-test.true c.in_ok-worth.worth d.0 d.1 (omega arith) (omega (arith, c.in_err-n.ensures)) in cc
+pub returns : goal.returns
+returns c =
+    let base = c.args.base in
+    onward_from_try_fold _ _ (λ x. x.now) _ (one_more base) _ (λ n x r q k. grind (arith, common_steps, nat_tests)) _ _ 0 c.try_fold.ensures.ran (YieldsList-from_slice c.args.digits.now cc) ∙ folded base (omega arith) c.args.digits.now (grind (arith, common_steps, nat_tests))

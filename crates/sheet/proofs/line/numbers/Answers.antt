@@ -7,8 +7,8 @@ use Rattle.sheet.proofs.line.numbers.Goals as goal
 use Rattle.sheet.proofs.line.numbers.Goals.{After-count}
 use Rattle.sheet.proofs.line.numbers.Given as given
 
-counted : (g : given.Over) (c : After-count g) → c.count.result ≡ length (words_of c.args.rest.now)
-counted g c = count_from_yields_List _ _ c.count.ensures.ran (YieldsList-from_first (λ x. x.now) (λ s. words_of s.0.now) (words_of c.args.rest.now) refl)
+counted : (g : given.Over) (c : After-count g) → c.count.result ≡ length (words_of c.args.words.0.now)
+counted g c = count_from_yields_List _ _ c.count.ensures.ran (YieldsList-from_first (λ x. x.now) (λ s. words_of s.0.now) (words_of c.args.words.0.now) refl)
 
 pub loop-i-init : goal.loop-i-init
 loop-i-init g c =

@@ -10,5 +10,5 @@ invariant-loop-i g l =
     let it = l.i-iterator in
     record {
       room : enumerate_count it + length (words_of (enumerate_source it).0.now) ≡ length l.numbers;
-      same : numbers_of (words_of l.rest) ≡ onto (take (enumerate_count it) l.numbers) (numbers_of (words_of (enumerate_source it).0.now));
+      same : numbers_of (words_of l.fn.words.0.now) ≡ onto (take (enumerate_count it) l.numbers) (numbers_of (words_of (enumerate_source it).0.now));
     }
