@@ -9,6 +9,10 @@ use Rattle.chart.specs.declared.refusal.Refusal.{Refusal}
 abbrev pub asleep : Bool → Option Reply
 asleep supply = if supply then None else Some (refused 5 [])
 
+-- one call carries 1 to 16 words
+abbrev pub length_check : ℕ → Option Reply
+length_check n = if n == 0 || nat_lt 16 n then Some (refused 1 []) else None
+
 abbrev pub get_check : ℕ → Bool → Option Reply
 get_check raw supply = if nat_lt 63 raw then Some (refused 2 []) else asleep supply
 

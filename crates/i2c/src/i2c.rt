@@ -5,7 +5,7 @@ ghost use Rattle.std.specs.Option.{SomeIff};
 ghost use Rattle.chart.specs.Replies.{reply, word_value, no_value};
 ghost use Rattle.bus.specs.I2cs.{I2cModel, get_sent, put_sent, i2c_steps, i2c_chip, i2c_trace, I2cSound, I2cNew};
 ghost use Rattle.bus.proofs.I2cMeaning.{i2c_meaning};
-ghost use Rattle.i2c.specs.Made.{i2c_model, Addressable, I2cMade};
+ghost use Rattle.i2c.specs.Made.{Addressable, I2cMade};
 
 use crate::line::Line;
 use bus::bus::Bus;
@@ -15,7 +15,7 @@ use chart::class::Chart;
 use chart::refusal::{Failure, Refusal};
 use i2c_target::event::Event;
 use i2c_target::trace::Trace;
-use std::marker::PhantomData;
+use std::marker::{Model, PhantomData};
 use wire::wire::Wire;
 
 #[derive(Drop)]
@@ -26,14 +26,21 @@ pub struct I2c<'a, C> {
     chart: PhantomData<C>,
 }
 
+impl<'a, C> Model for I2c<'a, C> {
+    ghost use Rattle.bus.specs.I2cs.{I2cModel, i2c_of};
+
+    ghost Value = { I2cModel };
+
+    ghost view = { λ b. i2c_of b.line b.supply b.wire };
+}
+
 // A seven-bit address that a target may have.
 fn target_address(address: u16) -> Option<u8>
     ensures { SomeIff result (Addressable address) address }
 {
-    match u8::try_from(address) {
-        Ok(address) if (8..=127).contains(&address) => Some(address),
-        _ => None,
-    }
+    u8::try_from(address)
+        .ok()
+        .filter(|address| (8..=127).contains(address))
 }
 
 impl<'a, C: Chart> I2c<'a, C> {
@@ -58,7 +65,7 @@ impl<'a, C: Chart> I2c<'a, C> {
 
     fn send_get(&mut self, raw: u8) -> Result<u16, Refusal<Failure>>
         requires { raw < 64 }
-        ensures { (reply word_value result, i2c_model self.new) ≡ get_sent (i2c_model self.old) raw }
+        ensures { (reply word_value result, self.new) ≡ get_sent self.old raw }
     {
         let mark = self.line.draw(3);
         let word = self.wire.get(raw, mark);
@@ -67,7 +74,7 @@ impl<'a, C: Chart> I2c<'a, C> {
 
     fn send_put(&mut self, raw: u8, words: &[u16]) -> Result<(), Refusal<Failure>>
         requires { length words.now ≤ 16 }
-        ensures { (reply no_value result, i2c_model self.new) ≡ put_sent (i2c_model self.old) raw words.now }
+        ensures { (reply no_value result, self.new) ≡ put_sent self.old raw words.now }
     {
         let mark = self.line.draw(2 + 2 * words.len());
         let stored = mark.saturating_sub(3) / 2;
@@ -81,7 +88,7 @@ impl<'a, C: Chart> Bus for I2c<'a, C> {
 
     ghost Model = { I2cModel };
 
-    ghost model = { i2c_model };
+    ghost model = { λ b. b };
 
     ghost steps = { i2c_steps };
 

@@ -1,9 +1,10 @@
 // What a call on a port is refused for before anything is sent, in the order in which refusals win.
 ghost use Rattle.std.specs.Prelude.{◌≡◌, ◌-◌, ◌||◌};
 ghost use Rattle.chart.specs.Replies.{fault_values};
-ghost use Rattle.bus.specs.Checks.{asleep, checked};
+ghost use Rattle.bus.specs.Checks.{checked};
 ghost use Rattle.port.specs.Checks.{read_check, update_check, run_check, worse, worst};
 
+use bus::checks::{check_awake, check_length};
 use chart::class::{Chart, Class};
 use chart::refusal::{Fault, Refusal};
 use std::ops::Range;
@@ -17,13 +18,14 @@ pub struct Access {
 
 impl Access {
     // A setting is at hand where the port keeps its settings, or the supply is on; a live register is the chip's alone.
+    // A function apart from `check_update`, since a live register is read and never updated.
     pub fn check_read(self, class: Class) -> Result<(), Refusal<Fault>>
         ensures { checked fault_values result ≡ read_check self.keeps class self.supply }
     {
         match class {
             Class::Absent => Err(Refusal::Register),
-            Class::Setting => check_at_hand(self.keeps || self.supply),
-            Class::Live => check_at_hand(self.supply),
+            Class::Setting => check_awake(self.keeps || self.supply),
+            Class::Live => check_awake(self.supply),
         }
     }
 
@@ -32,7 +34,7 @@ impl Access {
     {
         match class {
             Class::Absent => Err(Refusal::Register),
-            Class::Setting => check_at_hand(self.keeps || self.supply),
+            Class::Setting => check_awake(self.keeps || self.supply),
             Class::Live => Err(Refusal::Live),
         }
     }
@@ -41,25 +43,13 @@ impl Access {
     pub fn check_run<C: Chart>(self, first: u16, count: usize) -> Result<(), Refusal<Fault>>
         ensures { checked fault_values result ≡ run_check self.keeps C.Chart.classed first count self.supply }
     {
-        if count == 0 || count > 16 {
-            return Err(Refusal::Length);
-        }
+        check_length(count)?;
         let first = usize::from(first);
         self.check_update(worst_class::<C>(first..first + count))
     }
 }
 
-fn check_at_hand(at_hand: bool) -> Result<(), Refusal<Fault>>
-    ensures { checked fault_values result ≡ asleep at_hand }
-{
-    if at_hand {
-        Ok(())
-    } else {
-        Err(Refusal::Asleep)
-    }
-}
-
-// What no 16-bit number can be is absent.
+// What no 16-bit number can be is absent. All that this shares with the chip's `reset_word` is `map_or` itself.
 fn class_of<C: Chart>(register: usize) -> Class
     ensures { result ≡ C.Chart.classed register }
 {
@@ -67,7 +57,7 @@ fn class_of<C: Chart>(register: usize) -> Class
     u16::try_from(register).map_or(Class::Absent, |register| C::class(register))
 }
 
-// Of two classes the one whose refusal wins. No derived order says so: a chart's classes have none but this.
+// Of two classes the one whose refusal wins. A derived order would be no plainer: it would put the ranks of refusals into the chart, which has none.
 fn worse_of(a: Class, b: Class) -> Class
     ensures { result ≡ worse a b }
 {

@@ -5,13 +5,8 @@ use Rattle.chart.specs.Replies.{refused, told, failure_values}
 use Rattle.chip.specs.Words.{fresh}
 use Rattle.bus.specs.declared.unmade.Unmade.{Unmade}
 use Rattle.bus.specs.Windows.{WindowModel, window_of}
-use Rattle.window.specs.declared.window.Window.{Window}
-
--- a plain view, as for the I2C bus
-abbrev pub window_model : {C : Type 0} → Window C → WindowModel
-window_model w = window_of w.words.now w.supply
 
 -- Memory of 129 words becomes a new bus; any other is refused, and comes back as it was.
-abbrev pub WindowMade : {C : Type 0} → (ℕ → ℕ) → List ℕ → Result (Window C) (Unmade (MutBor (List ℕ))) → Type 0
-WindowMade reset ws (Ok b) = (length ws ≡ 129) × (window_model b ≡ window_of (fresh reset 129) true)
+abbrev pub WindowMade : (ℕ → ℕ) → List ℕ → Result WindowModel (Unmade (MutBor (List ℕ))) → Type 0
+WindowMade reset ws (Ok b) = (length ws ≡ 129) × (b ≡ window_of (fresh reset 129) true)
 WindowMade reset ws (Err e) = (length ws ≢ 129) × (told failure_values e.refusal ≡ refused 8 []) × (e.given.now ≡ ws)

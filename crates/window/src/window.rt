@@ -3,7 +3,7 @@ ghost use Rattle.std.specs.Prelude.{◌≡◌, ◌+◌, ◌≤◌, length};
 ghost use Rattle.chip.specs.Words.{rising, all_stored};
 ghost use Rattle.bus.specs.Windows.{WindowModel, window_steps, window_chip, window_trace, WindowSound, WindowNew};
 ghost use Rattle.bus.proofs.WindowMeaning.{window_meaning};
-ghost use Rattle.window.specs.Made.{window_model, WindowMade};
+ghost use Rattle.window.specs.Made.{WindowMade};
 
 use bus::bus::Bus;
 use bus::checks::{check_get, check_measure, check_put};
@@ -12,7 +12,7 @@ use chart::class::Chart;
 use chart::refusal::{Failure, Refusal};
 use chip::memory;
 use i2c_target::event::Event;
-use std::marker::PhantomData;
+use std::marker::{Model, PhantomData};
 
 // The memory is that of `chip::memory`: 128 registers and the selector.
 #[derive(Drop)]
@@ -20,6 +20,14 @@ pub struct Window<'a, C> {
     words: &'a mut [u16],
     supply: bool,
     chart: PhantomData<C>,
+}
+
+impl<'a, C> Model for Window<'a, C> {
+    ghost use Rattle.bus.specs.Windows.{WindowModel, window_of};
+
+    ghost Value = { WindowModel };
+
+    ghost view = { λ w. window_of w.words.now w.supply };
 }
 
 impl<'a, C: Chart> Window<'a, C> {
@@ -57,7 +65,7 @@ impl<'a, C: Chart> Bus for Window<'a, C> {
 
     ghost Model = { WindowModel };
 
-    ghost model = { window_model };
+    ghost model = { λ w. w };
 
     ghost steps = { window_steps };
 

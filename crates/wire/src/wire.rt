@@ -79,6 +79,7 @@ impl Wire {
     }
 
     // Sends bytes up to the first that is not acknowledged, and says by the cause if there was one.
+    // A mark counts the bytes of the whole transfer, so each part is sent under it less what was sent before.
     fn send(&mut self, bytes: &[u8], mark: usize, cause: Cause) -> Result<(), Cause>
         ensures value { result ≡ answer mark (length bytes.now) tt cause }
         ensures wire { self.new ≡ carried (sent bytes.now mark) self.old }
@@ -139,7 +140,8 @@ impl Wire {
         self.send_words(words, mark.saturating_sub(2))
     }
 
-    // A put of words from a raw address on, as one transfer; says whether all was acknowledged.
+    // A put of words from a raw address on, as one transfer; answers which kind of byte was not acknowledged, if any.
+    #[tactic(auto, using(crate::proofs::Recovering::recovered))]
     pub fn put(&mut self, raw: u8, words: &[u16], mark: u8) -> Result<(), Cause>
         ensures value { result ≡ answer mark (2 + 2 * length words.now) tt (cause_of_put mark) }
         ensures wire { self.new ≡ carried (put_frame (own self.old) raw words.now mark) self.old }
