@@ -5,7 +5,7 @@ use Rattle.chart.specs.declared.refusal.Failure.{Failure}
 use Rattle.chart.specs.declared.refusal.Refusal.{Refusal}
 use Rattle.i2c_target.specs.Traces.{Traced}
 use Rattle.bus.specs.Meaning.{Steps}
-use Rattle.sheet.specs.Said.{Asked, asked, get, put, measure, down, up}
+use Rattle.sheet.specs.Said.{Asked, get, put, measure, down, up}
 use Rattle.perform.specs.declared.answer.Outcome.{Outcome}
 
 -- what an acceptance answers: a word, or nothing more than yes
@@ -23,10 +23,6 @@ pub record Seen : Type 0 where
 
 abbrev pub seen : Outcome → Seen
 seen o = record { reply = answer_reply o.answer; passed = o.passed }
-
--- the call that an outcome is of
-abbrev pub called : Outcome → Asked
-called o = asked o.call.now
 
 -- one call, by the steps of the bus
 abbrev pub performed : {M : Type 0} → Steps M → Asked → M → Reply × M

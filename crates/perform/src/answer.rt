@@ -1,7 +1,7 @@
 // Performs the calls of a sheet on a bus.
-ghost use Rattle.std.specs.Prelude.{◌≡◌, map, length, IfOk, MatchResult};
+ghost use Rattle.std.specs.Prelude.{◌≡◌, map, length, MatchResult};
 ghost use Rattle.sheet.specs.Said.{asked};
-ghost use Rattle.perform.specs.Performed.{answer_reply, seen, called, performed, walked};
+ghost use Rattle.perform.specs.Performed.{answer_reply, seen, performed, walked};
 
 use bus::bus::Bus;
 use chart::refusal::{Failure, Refusal};
@@ -36,10 +36,9 @@ pub fn perform<B: Bus>(bus: &mut B, call: &Call) -> Answer
     }
 }
 
-// A call with its answer, and how many events had passed on the wire when it was over.
+// What a call answered, and how many events had passed on the wire when it was over.
 #[derive(Debug, Clone, Copy, PartialEq, Eq)]
-pub struct Outcome<'a> {
-    pub call: &'a Call,
+pub struct Outcome {
     pub answer: Answer,
     pub passed: usize,
 }
@@ -52,23 +51,18 @@ fn passed_on<B: Bus>(bus: &B) -> usize
 }
 
 // Performs calls in order. The places for their outcomes are reserved first, so that want of memory performs none.
-pub fn perform_all<'a, B: Bus>(
+pub fn perform_all<B: Bus>(
     heap: Global,
     bus: &mut B,
-    calls: &'a [Call],
-) -> Result<Vec<Outcome<'a>>, AllocError>
-    ensures outcomes { MatchResult result (λ v. (map seen v.items, B.Bus.model bus.new) ≡ walked (B.Bus.steps B.Chart.Chart.classed B.Chart.Chart.resets) B.Bus.trace (map asked calls.now) (B.Bus.model bus.old)) (λ _. B.Bus.model bus.new ≡ B.Bus.model bus.old) }
-    ensures calls { IfOk result (λ v. map called v.items ≡ map asked calls.now) }
+    calls: &[Call],
+) -> Result<Vec<Outcome>, AllocError>
+    ensures { MatchResult result (λ v. (map seen v.items, B.Bus.model bus.new) ≡ walked (B.Bus.steps B.Chart.Chart.classed B.Chart.Chart.resets) B.Bus.trace (map asked calls.now) (B.Bus.model bus.old)) (λ _. B.Bus.model bus.new ≡ B.Bus.model bus.old) }
 {
     let mut outcomes = Vec::with_capacity(heap, calls.len())?;
     for call in calls {
         let answer = perform(bus, call);
         let passed = passed_on(bus);
-        outcomes.push_reserved(Outcome {
-            call,
-            answer,
-            passed,
-        });
+        outcomes.push_reserved(Outcome { answer, passed });
     }
     Ok(outcomes)
 }

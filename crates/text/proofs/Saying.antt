@@ -1,5 +1,5 @@
 -- What is printed is the text that is promised. Assumes nothing.
-use Rattle.std.proofs.Common.{◌≡◌, ℕ, List, [], ◌++◌, map, length, codes, Some, sym, ap, append-nil, append_assoc, arith}
+use Rattle.std.proofs.Common.{◌≡◌, ℕ, min, ◌⊎◌, inl, inr, List, [], ◌∷◌, ◌++◌, map, length, codes, Some, refl, sym, ap, append-nil, append_assoc, arith}
 use lib.ListN.{length-map}
 use Rattle.chart.specs.Names.{refused_text, failure_text, refusal_shown, refusal_text}
 use Rattle.chart.specs.Replies.{told, failure_values}
@@ -8,8 +8,10 @@ use Rattle.chart.specs.declared.refusal.Refusal.{Refusal}
 use Rattle.chart.specs.declared.refusal.Refusal.TheVariants.{Length, Register, Live, Setting, Asleep, Line, Address, Memory}
 use Rattle.i2c_target.specs.Traces.{Traced}
 use Rattle.i2c_target.specs.declared.event.Event.{Event}
-use Rattle.perform.specs.Performed.{seen, called}
+use Rattle.perform.specs.Performed.{seen}
 use Rattle.perform.specs.declared.answer.Outcome.{Outcome}
+use Rattle.sheet.specs.Said.{Asked, asked}
+use Rattle.sheet.specs.declared.Call.{Call}
 use Rattle.text.specs.Texts.{calls_lines, full_text, tally_text, transcript_text}
 
 alone : (n : ℕ) → Some (refused_text n) ≡ Some (refused_text n ++ [])
@@ -26,7 +28,16 @@ refusal_said (Line f) = ap Some (append_assoc (refused_text 6) (codes ", ") (fai
 refusal_said Address = alone 7
 refusal_said Memory = alone 8
 
+nothing_seen : (es : List Event) (number passed : ℕ) (cs : List Asked) → calls_lines es number passed cs [] ≡ []
+nothing_seen es number passed [] = refl
+nothing_seen es number passed (c ∷ cs) = refl
+
+-- where no call is left, or none of what was seen, no line is
+pub nothing_left : (es : List Event) (number passed : ℕ) (cs : List Call) (os : List Outcome) → (cs ≡ []) ⊎ (os ≡ []) → calls_lines es number passed (map asked cs) (map seen os) ≡ []
+nothing_left es number passed cs os (inl e) = rw e refl
+nothing_left es number passed cs os (inr e) = rw e (nothing_seen es number passed (map asked cs))
+
 -- the whole, where each of its parts is known by another name
-pub whole : (trace : Traced) (failed count : ℕ) (os : List Outcome) (es : List Event) (note : List ℕ) → es ≡ trace.events → note ≡ full_text trace.overrun → count ≡ failed
-    → calls_lines es 0 0 (map called os) (map seen os) ++ (note ++ tally_text (length os) count) ≡ transcript_text trace failed (map called os) (map seen os)
-whole trace failed count os es note e f h = rw (e, f, h, length-map os called, length-map os seen) (grind arith)
+pub whole : (trace : Traced) (failed n count : ℕ) (cs : List Call) (os : List Outcome) (es : List Event) (note : List ℕ) → es ≡ trace.events → note ≡ full_text trace.overrun → n ≡ min (length cs) (length os) → count ≡ failed
+    → calls_lines es 0 0 (map asked cs) (map seen os) ++ (note ++ tally_text n count) ≡ transcript_text trace failed (map asked cs) (map seen os)
+whole trace failed n count cs os es note e f m h = rw (e, f, m, h, length-map cs asked, length-map os seen) (grind arith)

@@ -1,13 +1,15 @@
 // The transcript as text, whose form tools read.
 ghost use Rattle.std.specs.Prelude.{◌≡◌, false, map, IfOk, Some, string_bytes};
 ghost use Rattle.chart.specs.Replies.{told, failure_values};
-ghost use Rattle.perform.specs.Performed.{answer_reply, seen, called};
+ghost use Rattle.sheet.specs.Said.{asked};
+ghost use Rattle.perform.specs.Performed.{answer_reply, seen};
 ghost use Rattle.text.specs.Texts.{reply_text, event_text, goes_on, events_text, events_between, call_lines, calls_lines, full_text, transcript_text, unmade_text};
 
 use bus::bus::Bus;
 use chart::refusal::{Failure, Refusal};
 use i2c_target::event::Event;
 use perform::answer::{Answer, Outcome};
+use sheet::Call;
 use std::alloc::{AllocError, Global};
 use std::fmt;
 
@@ -95,18 +97,19 @@ fn between(events: &[Event], from: usize, to: usize) -> &[Event]
 #[derive(Clone, Copy)]
 struct Entry<'a> {
     number: usize,
-    outcome: &'a Outcome<'a>,
+    call: &'a Call,
+    answer: Answer,
     events: &'a [Event],
 }
 
 impl fmt::Display for Entry<'_> {
-    ghost output = { λ x. Some (call_lines x.number (called x.outcome.now) (answer_reply x.outcome.now.answer) x.events.now) };
+    ghost output = { λ x. Some (call_lines x.number (asked x.call.now) (answer_reply x.answer) x.events.now) };
 
     fn fmt<W: fmt::Write>(&self, f: &mut fmt::Formatter<W>) -> fmt::Result {
         let number = self.number;
-        let call = self.outcome.call;
+        let call = self.call;
         let reply = Reply {
-            answer: self.outcome.answer,
+            answer: self.answer,
         };
         let frames = Frames {
             events: self.events,
@@ -119,18 +122,20 @@ impl fmt::Display for Entry<'_> {
 #[derive(Clone, Copy)]
 struct Entries<'a> {
     events: &'a [Event],
-    outcomes: &'a [Outcome<'a>],
+    calls: &'a [Call],
+    outcomes: &'a [Outcome],
 }
 
 impl fmt::Display for Entries<'_> {
-    ghost output = { λ x. Some (calls_lines x.events.now 0 0 (map called x.outcomes.now) (map seen x.outcomes.now)) };
+    ghost output = { λ x. Some (calls_lines x.events.now 0 0 (map asked x.calls.now) (map seen x.outcomes.now)) };
 
     fn fmt<W: fmt::Write>(&self, f: &mut fmt::Formatter<W>) -> fmt::Result {
         let mut passed = 0;
-        for (before, outcome) in self.outcomes.iter().enumerate() {
+        for (before, (call, outcome)) in self.calls.iter().zip(self.outcomes).enumerate() {
             let entry = Entry {
                 number: before + 1,
-                outcome,
+                call,
+                answer: outcome.answer,
                 events: between(self.events, passed, outcome.passed),
             };
             write!(f, "{entry}")?;
@@ -155,29 +160,41 @@ fn note(overrun: bool) -> &'static str
 #[derive(Drop)]
 struct Transcript<'a, B> {
     bus: &'a B,
-    outcomes: &'a [Outcome<'a>],
+    calls: &'a [Call],
+    outcomes: &'a [Outcome],
 }
 
 impl<B: Bus> fmt::Display for Transcript<'_, B> {
-    ghost output = { λ x. Some (transcript_text (B.Bus.trace (B.Bus.model x.bus.now)) (B.Bus.chip (B.Bus.model x.bus.now)).failed (map called x.outcomes.now) (map seen x.outcomes.now)) };
+    ghost output = { λ x. Some (transcript_text (B.Bus.trace (B.Bus.model x.bus.now)) (B.Bus.chip (B.Bus.model x.bus.now)).failed (map asked x.calls.now) (map seen x.outcomes.now)) };
 
     fn fmt<W: fmt::Write>(&self, f: &mut fmt::Formatter<W>) -> fmt::Result {
         let entries = Entries {
             events: self.bus.events(),
+            calls: self.calls,
             outcomes: self.outcomes,
         };
         let note = note(self.bus.overrun());
-        let calls = self.outcomes.len();
+        let calls = self.calls.len().min(self.outcomes.len());
         let failed = self.bus.failed();
         writeln!(f, "{entries}{note}calls {calls}, failed transfers {failed}")
     }
 }
 
 // What the calls answered, and what passed for each.
-pub fn written<B: Bus>(heap: Global, bus: &B, outcomes: &[Outcome]) -> Result<String, AllocError>
-    ensures { IfOk result (λ t. string_bytes t ≡ transcript_text (B.Bus.trace (B.Bus.model bus.now)) (B.Bus.chip (B.Bus.model bus.now)).failed (map called outcomes.now) (map seen outcomes.now)) }
+// The two lists stay two: outcomes that name their calls would borrow them, which asks more of callers.
+pub fn written<B: Bus>(
+    heap: Global,
+    bus: &B,
+    calls: &[Call],
+    outcomes: &[Outcome],
+) -> Result<String, AllocError>
+    ensures { IfOk result (λ t. string_bytes t ≡ transcript_text (B.Bus.trace (B.Bus.model bus.now)) (B.Bus.chip (B.Bus.model bus.now)).failed (map asked calls.now) (map seen outcomes.now)) }
 {
-    let transcript = Transcript { bus, outcomes };
+    let transcript = Transcript {
+        bus,
+        calls,
+        outcomes,
+    };
     Ok(format!(in heap; "{transcript}")?)
 }
 

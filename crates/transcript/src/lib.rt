@@ -54,7 +54,7 @@ fn play<B: Bus + Drop, T: Drop>(
     match made {
         Ok(mut bus) => {
             let outcomes = perform_all(heap, &mut bus, calls)?;
-            written(heap, &bus, outcomes.as_slice())
+            written(heap, &bus, calls, outcomes.as_slice())
         }
         Err(Unmade { refusal, .. }) => unmade(heap, refusal),
     }

@@ -20,17 +20,16 @@ loop-call-preserved g c =
     let cut = drop_more calls i c.call-item.result c.loop-call-test.true ∙ ap (λ x. x ∷ drop (i + 1) calls) (sym c.call-item.is) in (
       grind (arith, common_steps),
       grind (arith, common_steps),
-      grind (arith, common_steps),
       ap (λ os. continued (map seen os) (walked step trace rest new)) c.push_reserved.ensures.items
           ∙ ap (λ rs. continued rs (walked step trace rest new)) (map_push seen (vec_items l.outcomes) _)
           ∙ ap (λ n. continued (before ++ (record { reply = answer_reply c.perform-answer.result; passed = n } ∷ [])) (walked step trace rest new)) c.passed_on-passed.ensures
           ∙ one_more step trace before (asked c.call-item.result) rest (answer_reply c.perform-answer.result, new) old c.perform-answer.ensures
           ∙ ap (λ cs. continued before (walked step trace (map asked cs) old)) (sym cut)
-          ∙ l.invariant.3,
+          ∙ l.invariant.2,
     )
 
-pub returns-clause-outcomes : goal.returns-clause-outcomes
-returns-clause-outcomes g c =
+pub returns : goal.returns
+returns g c =
     let l = c.loop-call in
     let step = g.B.Bus.steps g.B.Chart.Chart.classed g.B.Chart.Chart.resets in
     let trace = g.B.Bus.trace in
@@ -38,4 +37,4 @@ returns-clause-outcomes g c =
     let here = g.B.Bus.model l.bus in
     ap (λ rs. (rs, here)) (sym (append-nil before))
     ∙ ap (λ cs. continued before (walked step trace (map asked cs) here)) (sym (drop_all l.call-index c.args.calls.now c.loop-call-test.false))
-    ∙ l.invariant.3
+    ∙ l.invariant.2

@@ -1,6 +1,6 @@
-use Rattle.std.proofs.Common.{◌≡◌, ◌≤◌, map, length, take, drop, vec_items, vec_len, vec_capacity}
+use Rattle.std.proofs.Common.{◌≡◌, ◌≤◌, map, length, drop, vec_items, vec_len, vec_capacity}
 use Rattle.sheet.specs.Said.{asked}
-use Rattle.perform.specs.Performed.{seen, called, walked}
+use Rattle.perform.specs.Performed.{seen, walked}
 use Rattle.perform.proofs.Walking.{continued}
 use Rattle.perform.proofs.answer.perform_all.Given as goal
 
@@ -10,6 +10,5 @@ invariant-loop-call g l =
     let step = g.B.Bus.steps g.B.Chart.Chart.classed g.B.Chart.Chart.resets in
     (vec_len l.outcomes ≡ l.call-index)
     × (length l.calls ≤ vec_capacity l.outcomes)
-    × (map called (vec_items l.outcomes) ≡ map asked (take l.call-index l.calls))
     × (continued (map seen (vec_items l.outcomes)) (walked step g.B.Bus.trace (map asked (drop l.call-index l.calls)) (g.B.Bus.model l.bus))
     ≡ walked step g.B.Bus.trace (map asked l.calls) (g.B.Bus.model l.initial.bus))

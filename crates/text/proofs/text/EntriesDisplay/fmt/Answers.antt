@@ -1,23 +1,32 @@
-use Rattle.std.proofs.Common.{◌+◌, ◌∷◌, List, ◌++◌, map, drop, append_assoc, sym, ◌∙◌, ap, rules}
+use Rattle.std.proofs.Common.{◌+◌, [], ◌++◌, append-nil, append_assoc, refl, rules}
 use Rattle.std.proofs.Output.{has_written_append}
-use Rattle.std.proofs.lemmas.List.{drop_more}
-use Rattle.perform.specs.Performed.{answer_reply, seen, called}
-use Rattle.perform.specs.declared.answer.Outcome.{Outcome}
-use Rattle.text.specs.Texts.{call_lines, calls_lines}
+use Rattle.std.proofs.lemmas.Slice.Zip.{either_empty_from_Zip}
+use Rattle.std.specs.Iterator.Adapters.{enumerate_count, enumerate_source, zip_first, zip_second}
+use Rattle.std.specs.Slice.Iter.{iter_rest}
+use Rattle.perform.specs.Performed.{answer_reply}
+use Rattle.sheet.specs.Said.{asked}
+use Rattle.text.proofs.Saying.{nothing_left}
+use Rattle.text.specs.Texts.{call_lines}
 use Rattle.text.proofs.text.EntriesDisplay.fmt.Goals as goal
+
+pub loop-before-init : goal.loop-before-init
+loop-before-init g c = λ plain. ([], search rules, cc)
 
 pub loop-before-preserved : goal.loop-before-preserved
 loop-before-preserved g c = λ plain.
     let so_far = c.loop-before.invariant plain in
-    let n = c.loop-before.before in
-    let o = c.outcome-item.result in
-    let all = c.args.self.now.outcomes.now in
-    let es = c.args.self.now.events.now in
-    let whole = λ (os : List Outcome). so_far.0 ++ calls_lines es n c.loop-before.passed (map called os) (map seen os) in
-    let cut = drop_more all n o c.loop-before-test.true ∙ ap (λ x. x ∷ drop (n + 1) all) (sym c.outcome-item.is) in (
-      so_far.0 ++ call_lines (n + 1) (called o) (answer_reply o.answer) c.between.result.now,
+    let steps = c.in-Some.ensures.steps in
+    let lines = call_lines (enumerate_count c.loop-before.before-iterator + 1) (asked c.in-Some.call.now) (answer_reply c.in-Some.outcome.now.answer) c.between.result.now in (
+      so_far.0 ++ lines,
       has_written_append _ _ _ _ _ _ so_far.1 (search rules),
-      append_assoc so_far.0 _ _
-          ∙ ap (λ t. so_far.0 ++ (call_lines (n + 1) (called o) (answer_reply o.answer) t ++ calls_lines es (n + 1) o.passed (map called (drop (n + 1) all)) (map seen (drop (n + 1) all)))) c.between.ensures
-          ∙ sym (ap whole cut) ∙ so_far.2,
+      rw (append_assoc so_far.0 lines, c.between.ensures, steps.2, ← so_far.2, steps.0.0, steps.0.1) refl,
     )
+
+pub returns-clause-writes : goal.returns-clause-writes
+returns-clause-writes g c = λ plain ok.
+    let l = c.loop-before in
+    let so_far = l.invariant plain in
+    let left = enumerate_source l.before-iterator in
+    let over = nothing_left c.args.self.now.events.now (enumerate_count l.before-iterator) l.passed (iter_rest (zip_first left)) (iter_rest (zip_second left))
+    (either_empty_from_Zip left (enumerate_source c.next.new.self) _ refl c.in-None.ensures.steps.0) in
+    rw (← so_far.2, over, append-nil so_far.0) so_far.1

@@ -1,6 +1,9 @@
-use Rattle.std.proofs.Common.{◌≡◌, ℕ, List, ◌++◌, map, drop}
+use Rattle.std.proofs.Common.{◌≡◌, ℕ, List, ◌++◌, map}
 use Rattle.std.specs.Fmt.{HasWritten, IsPlainFormatter}
-use Rattle.perform.specs.Performed.{seen, called}
+use Rattle.std.specs.Iterator.Adapters.{enumerate_count, enumerate_source, zip_first, zip_second}
+use Rattle.std.specs.Slice.Iter.{iter_rest}
+use Rattle.perform.specs.Performed.{seen}
+use Rattle.sheet.specs.Said.{asked}
 use Rattle.text.specs.Texts.{calls_lines}
 use Rattle.text.proofs.text.EntriesDisplay.fmt.Given as goal
 
@@ -8,7 +11,8 @@ use Rattle.text.proofs.text.EntriesDisplay.fmt.Given as goal
 abbrev pub invariant-loop-before : goal.invariant-loop-before
 invariant-loop-before g l =
     let es = l.self.events.now in
-    let left = drop l.before l.outcome-items in
+    let left = enumerate_source l.before-iterator in
     IsPlainFormatter l.initial.f
     → (done : List ℕ) × HasWritten g.W.Write.write_str_gives l.initial.f done l.f
-    × (done ++ calls_lines es l.before l.passed (map called left) (map seen left) ≡ calls_lines es 0 0 (map called l.outcome-items) (map seen l.outcome-items))
+    × (done ++ calls_lines es (enumerate_count l.before-iterator) l.passed (map asked (iter_rest (zip_first left))) (map seen (iter_rest (zip_second left)))
+    ≡ calls_lines es 0 0 (map asked l.self.calls.now) (map seen l.self.outcomes.now))
