@@ -62,10 +62,11 @@ pub trait Bus {
         ensures { result ≡ (chip (model self.now)).failed };
 
     // The events that passed on the wire so far, in order, as far as there was room. A bus that has no wire has none.
+    // This and `overrun` are methods apart, since such a bus has no `Trace` that could be lent for both.
     fn events(&self) -> &[Event]
         ensures { result.now ≡ (trace (model self.now)).events };
 
-    // Whether an event found no room. A method of its own, since a window has no `Trace` that both could be asked of.
+    // Whether an event found no room.
     fn overrun(&self) -> bool
         ensures { result ≡ (trace (model self.now)).overrun };
 

@@ -126,6 +126,7 @@ impl<'a, C: Chart> Bus for I2c<'a, C> {
         self.supply = false;
     }
 
+    // `measure`, this and `supply` read as in `Window`: what both makes share is one `bool`, and whose words change differs.
     fn up(&mut self) {
         self.supply = true;
     }

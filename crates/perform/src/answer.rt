@@ -36,7 +36,8 @@ pub fn perform<B: Bus>(bus: &mut B, call: &Call) -> Answer
     }
 }
 
-// What a call answered, and how many events had passed on the wire when it was over.
+// What a call answered, and how many events had passed on the wire when it was over: a count, since the bus that has the events is lent
+// to be changed until the last call is done.
 #[derive(Debug, Clone, Copy, PartialEq, Eq)]
 pub struct Outcome {
     pub answer: Answer,

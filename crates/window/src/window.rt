@@ -105,7 +105,7 @@ impl<'a, C: Chart> Bus for Window<'a, C> {
         self.supply = false;
     }
 
-    // This and `supply` are as in `I2c`: a type for both to share would be a struct round one `bool`.
+    // `measure`, this and `supply` read as in `I2c`: what both makes share is one `bool`, and whose words change differs.
     fn up(&mut self) {
         self.supply = true;
     }
