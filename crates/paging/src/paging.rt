@@ -67,7 +67,7 @@ impl<B: Bus> Paging<B> {
         Ok(())
     }
 
-    // A get of one register.
+    // A get of one register. Apart from `send`, since what both share is `reach` and `locate`, and the bus's call between differs.
     fn fetch(&mut self, register: Register) -> Result<u16, Refusal<Fault>>
         ensures { (port_reply word_value result, paging_model B.Bus.model self.new) ≡ fetched (B.Bus.steps B.Chart.Chart.classed B.Chart.Chart.resets) (paging_model B.Bus.model self.old) register.number }
     {

@@ -1,10 +1,12 @@
 // Cuts a text into lines, and a line into words.
 ghost use Rattle.std.specs.Prelude.{◌≡◌};
 ghost use Rattle.std.specs.Iterator.{YieldsFirstRef, item_count};
-ghost use Rattle.sheet.specs.Cut.{before, after, blank, lines_of, words_of};
+ghost use Rattle.sheet.specs.Cut.{before, after, blank, lines_of};
+
+use std::marker::Model;
 
 // What stands before the first `b`, and what stands after it.
-// Slices have no `split_once`, and the second piece of `split` ends at the next `b`.
+// Slices have no `split_once`; `splitn(2, ..)` gives the same pieces by two calls of `next`, which is no plainer than one `position`.
 fn split_once(s: &[u8], b: u8) -> (&[u8], &[u8])
     ensures front { result.0.now ≡ before b s.now }
     ensures back { result.1.now ≡ after b s.now }
@@ -56,12 +58,21 @@ fn is_blank(c: u8) -> bool
 #[derive(Drop)]
 pub struct Words<'a>(pub &'a [u8]);
 
+impl<'a> Model for Words<'a> {
+    ghost use Rattle.std.specs.Prelude.{ℕ, List};
+    ghost use Rattle.sheet.specs.Cut.{words_of};
+
+    ghost Value = { List (List ℕ) };
+
+    ghost view = { λ w. words_of w.0.now };
+}
+
 impl<'a> Iterator for Words<'a> {
     type Item = &'a [u8];
 
-    ghost next_gives = { YieldsFirstRef (λ s. words_of s.0.now) };
+    ghost next_gives = { YieldsFirstRef (λ s. s) };
 
-    ghost remaining = { item_count (λ s. words_of s.0.now) };
+    ghost remaining = { item_count (λ s. s) };
 
     fn next(&mut self) -> Option<&'a [u8]> {
         let start = self.0.iter().position(|c| !is_blank(*c))?;

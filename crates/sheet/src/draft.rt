@@ -85,7 +85,7 @@ impl Draft {
     {
         self.opening()?;
         if matches!(self.make, Some(Make::Window)) {
-            return Err(LineError::Wrong(Mistake::MarksOnWindow));
+            return Err(Mistake::MarksOnWindow.into());
         }
         match &mut self.marks {
             Some(all) => all.extend_from_slice(marks.as_slice())?,
@@ -98,7 +98,7 @@ impl Draft {
         ensures { Gives (λ _. self.new) result (with_call self.old (asked call)) }
     {
         if self.make.is_none() {
-            return Err(LineError::Wrong(Mistake::NoBus));
+            return Err(Mistake::NoBus.into());
         }
         self.calls.push(call)?;
         Ok(())

@@ -48,6 +48,7 @@ pub enum ChartName {
     Valve,
 }
 
+// Clauses see it through `asked`, since an enum cannot have a model yet.
 #[derive(Debug, PartialEq, Eq, Drop)]
 pub enum Call {
     Get { raw: u16 },

@@ -1,6 +1,5 @@
 // Reads the words of one line.
 ghost use Rattle.std.specs.Prelude.{◌≡◌, ℕ, List, Result, vec_items};
-ghost use Rattle.sheet.specs.Cut.{words_of};
 ghost use Rattle.sheet.specs.Said.{Gives, exactly, all_of, asked, said, map_ok, call_named, statement_named, bus_of, chart_of, marks_of, get_of, put_of, measure_of, number_of, mark_of};
 
 use crate::cut::Words;
@@ -31,7 +30,7 @@ fn a_mark(word: &[u8]) -> Result<u8, Mistake>
 // The `N` numbers of a line that has just so many words left.
 #[tactic(auto, using(crate::proofs::Cutting::few_after))]
 fn numbers<const N: usize>(words: Words) -> Result<[u16; N], Mistake>
-    ensures { result ≡ exactly N (words_of words.entry.0.now) }
+    ensures { result ≡ exactly N words.entry }
 {
     if Words(words.0).count() != N {
         return Err(Mistake::WordCount);
@@ -51,7 +50,7 @@ fn all<T: Drop, F: Fn(&[u8]) -> Result<T, Mistake>>(
     read: F,
 ) -> Result<Vec<T>, LineError>
     requires { F.IsAlwaysCallable read }
-    ensures { (f : List ℕ → Result T Mistake) → ((w : _) (r : _) → F.post read w r → r ≡ f w.now) → Gives vec_items result (all_of f (words_of words.entry.0.now)) }
+    ensures { (f : List ℕ → Result T Mistake) → ((w : _) (r : _) → F.post read w r → r ≡ f w.now) → Gives vec_items result (all_of f words.entry) }
 {
     // No plainer by `try_collect`: its closure makes each mistake a `LineError`, and search does not find that the first one is told.
     let mut all = Vec::new(heap);
@@ -63,7 +62,7 @@ fn all<T: Drop, F: Fn(&[u8]) -> Result<T, Mistake>>(
 
 #[tactic(auto, using(crate::proofs::Naming::names))]
 fn bus(mut words: Words) -> Result<Make, Mistake>
-    ensures { result ≡ bus_of (words_of words.entry.0.now) }
+    ensures { result ≡ bus_of words.entry }
 {
     match words.next().ok_or(Mistake::WordCount)? {
         b"i2c" => {
@@ -79,7 +78,7 @@ fn bus(mut words: Words) -> Result<Make, Mistake>
 }
 
 fn chart(mut words: Words) -> Result<ChartName, Mistake>
-    ensures { result ≡ chart_of (words_of words.entry.0.now) }
+    ensures { result ≡ chart_of words.entry }
 {
     let (Some(name), None) = (words.next(), words.next()) else {
         return Err(Mistake::WordCount);
@@ -92,20 +91,20 @@ fn chart(mut words: Words) -> Result<ChartName, Mistake>
 }
 
 fn marks(heap: Global, words: Words) -> Result<Vec<u8>, LineError>
-    ensures { Gives vec_items result (marks_of (words_of words.entry.0.now)) }
+    ensures { Gives vec_items result (marks_of words.entry) }
 {
     all(heap, words, a_mark)
 }
 
 fn get(words: Words) -> Result<Call, Mistake>
-    ensures { map_ok asked result ≡ get_of (words_of words.entry.0.now) }
+    ensures { map_ok asked result ≡ get_of words.entry }
 {
     let [raw] = numbers::<1>(words)?;
     Ok(Call::Get { raw })
 }
 
 fn put(heap: Global, mut words: Words) -> Result<Call, LineError>
-    ensures { Gives asked result (put_of (words_of words.entry.0.now)) }
+    ensures { Gives asked result (put_of words.entry) }
 {
     let raw = a_number(words.next().ok_or(Mistake::WordCount)?)?;
     let words = all(heap, words, a_number)?;
@@ -113,7 +112,7 @@ fn put(heap: Global, mut words: Words) -> Result<Call, LineError>
 }
 
 fn measure(words: Words) -> Result<Call, Mistake>
-    ensures { map_ok asked result ≡ measure_of (words_of words.entry.0.now) }
+    ensures { map_ok asked result ≡ measure_of words.entry }
 {
     let [register, word] = numbers::<2>(words)?;
     Ok(Call::Measure { register, word })
@@ -121,7 +120,7 @@ fn measure(words: Words) -> Result<Call, Mistake>
 
 #[tactic(auto, using(crate::proofs::Naming::names))]
 fn read_call(heap: Global, name: &[u8], words: Words) -> Result<Call, LineError>
-    ensures { Gives asked result (call_named name.now (words_of words.entry.0.now)) }
+    ensures { Gives asked result (call_named name.now words.entry) }
 {
     match name {
         b"get" => Ok(get(words)?),
@@ -135,14 +134,14 @@ fn read_call(heap: Global, name: &[u8], words: Words) -> Result<Call, LineError>
             let [] = numbers::<0>(words)?;
             Ok(Call::Up)
         }
-        _ => Err(LineError::Wrong(Mistake::UnknownStatement)),
+        _ => Err(Mistake::UnknownStatement.into()),
     }
 }
 
 // The statement that a name begins.
 #[tactic(auto, using(crate::proofs::Naming::names))]
 pub fn read_statement(heap: Global, name: &[u8], words: Words) -> Result<Statement, LineError>
-    ensures { Gives said result (statement_named name.now (words_of words.entry.0.now)) }
+    ensures { Gives said result (statement_named name.now words.entry) }
 {
     match name {
         b"bus" => Ok(Statement::Bus(bus(words)?)),

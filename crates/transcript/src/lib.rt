@@ -43,7 +43,7 @@ fn room(calls: &[Call]) -> Result<usize, AllocError>
         .ok_or(AllocError)
 }
 
-// Performs calls on a bus, where one was made.
+// Performs calls on a bus, where one was made. The clause names the steps at the bus's own chart, as in `Bus`.
 fn play<B: Bus + Drop, T: Drop>(
     heap: Global,
     made: Result<B, Unmade<T>>,

@@ -1,6 +1,5 @@
 use Rattle.std.proofs.Common.{◌≡◌, ℕ, List, Result, vec_items}
 use Rattle.sheet.specs.declared.Mistake.{Mistake}
-use Rattle.sheet.specs.Cut.{words_of}
 use Rattle.sheet.specs.Said.{all_of}
 use Rattle.sheet.proofs.Listing.{onto}
 use Rattle.sheet.proofs.line.all.Given as goal
@@ -9,4 +8,4 @@ abbrev pub invariant-loop-word : goal.invariant-loop-word
 invariant-loop-word g l =
     (goal.iterator-loop-word g).can_next l.word-iterator ×
     (goal.iterator-loop-word g).is_finite l.word-iterator ×
-    ((f : List ℕ → Result g.row.T.Denot Mistake) → ((w : _) (r : _) → goal.F-post g l.read w r → r ≡ f w.now) → all_of f (words_of l.fn.words.0.now) ≡ onto (vec_items l.all) (all_of f (words_of l.word-iterator.0.now)))
+    ((f : List ℕ → Result g.row.T.Denot Mistake) → ((w : _) (r : _) → goal.F-post g l.read w r → r ≡ f w.now) → all_of f l.fn.words ≡ onto (vec_items l.all) (all_of f l.word-iterator))

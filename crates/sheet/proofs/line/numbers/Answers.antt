@@ -1,14 +1,13 @@
-use Rattle.std.proofs.Common.{◌≡◌, length, arith, refl}
+use Rattle.std.proofs.Common.{◌≡◌, length, arith, rules}
 use Rattle.std.proofs.lemmas.Grind.{common_steps}
 use Rattle.std.proofs.lemmas.Iterator.Consumers.{YieldsList-from_first, count_from_yields_List}
-use Rattle.sheet.specs.Cut.{words_of}
 use Rattle.sheet.proofs.Listing.{onto_none}
 use Rattle.sheet.proofs.line.numbers.Goals as goal
 use Rattle.sheet.proofs.line.numbers.Goals.{After-count}
 use Rattle.sheet.proofs.line.numbers.Given as given
 
-counted : (g : given.Over) (c : After-count g) → c.count.result ≡ length (words_of c.args.words.0.now)
-counted g c = count_from_yields_List _ _ c.count.ensures.ran (YieldsList-from_first (λ x. x.now) (λ s. words_of s.0.now) (words_of c.args.words.0.now) refl)
+counted : (g : given.Over) (c : After-count g) → c.count.result ≡ length c.args.words
+counted g c = count_from_yields_List _ _ c.count.ensures.ran (YieldsList-from_first (λ x. x.now) (λ s. s) c.args.words (search rules))
 
 pub loop-i-init : goal.loop-i-init
 loop-i-init g c =
