@@ -1,5 +1,5 @@
 -- What a call answers, as a number and its values. Assumes nothing.
-use Rattle.std.specs.Prelude.{◌≡◌, ℕ, List, [], ◌∷◌, Ok, Err, Result}
+use Rattle.std.specs.Prelude.{ℕ, List, [], ◌∷◌, Ok, Err, Result}
 use Rattle.chart.specs.declared.refusal.Refusal.{Refusal}
 use Rattle.chart.specs.declared.refusal.Refusal.TheVariants.{Length, Register, Live, Setting, Asleep, Line, Address, Memory}
 use Rattle.chart.specs.declared.refusal.Cause.{Cause}
@@ -30,22 +30,6 @@ told tells Asleep = refused 5 []
 told tells (Line f) = refused 6 (tells f)
 told tells Address = refused 7 []
 told tells Memory = refused 8 []
-
--- P of what a failed transfer tells; nothing is asked of the other refusals
-abbrev pub OnLine : {F : Type 0} → Refusal F → (F → Type 0) → Type 0
-OnLine (Line f) P = P f
-OnLine _ P = Unit {0}
-
--- the same refusal, where G relates what a failed transfer told to what it now tells
-abbrev pub Mapped : {F G : Type 0} → Refusal F → (F → G → Type 0) → Refusal G → Type 0
-Mapped Length R to = to ≡ Length
-Mapped Register R to = to ≡ Register
-Mapped Live R to = to ≡ Live
-Mapped Setting R to = to ≡ Setting
-Mapped Asleep R to = to ≡ Asleep
-Mapped {G} (Line f) R to = (g : G) × R f g × (to ≡ Line g)
-Mapped Address R to = to ≡ Address
-Mapped Memory R to = to ≡ Memory
 
 -- an address byte was not acknowledged, or another byte
 abbrev pub cause_number : Cause → ℕ

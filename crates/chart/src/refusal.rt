@@ -1,6 +1,6 @@
 // How a call says no: eight refusals, each with its number.
 ghost use Rattle.std.specs.Prelude.{◌≡◌, ℕ, List, [], Some};
-ghost use Rattle.chart.specs.Replies.{told, OnLine, Mapped, cause_number, errand_number, failure_values, fault_values};
+ghost use Rattle.chart.specs.Replies.{told, cause_number, errand_number, failure_values, fault_values};
 ghost use Rattle.chart.specs.Names.{refusal_name, failure_text, fault_text, refusal_shown};
 
 use std::fmt;
@@ -60,23 +60,6 @@ impl<F> Refusal<F> {
             Refusal::Line(_) => "line",
             Refusal::Address => "address",
             Refusal::Memory => "memory",
-        }
-    }
-
-    // The same refusal, where a failed transfer tells something else.
-    pub fn map<G, M: FnOnce(F) -> G>(self, f: M) -> Refusal<G>
-        requires { OnLine self (M.pre f) }
-        ensures { Mapped self (M.post f) result }
-    {
-        match self {
-            Refusal::Length => Refusal::Length,
-            Refusal::Register => Refusal::Register,
-            Refusal::Live => Refusal::Live,
-            Refusal::Setting => Refusal::Setting,
-            Refusal::Asleep => Refusal::Asleep,
-            Refusal::Line(told) => Refusal::Line(f(told)),
-            Refusal::Address => Refusal::Address,
-            Refusal::Memory => Refusal::Memory,
         }
     }
 }

@@ -28,15 +28,25 @@ struct Register {
 }
 
 impl Register {
-    // A refusal of the bus, where a fault names the first register that was not stored.
+    // A refusal of the bus, where a fault names the first register that was not stored. By all variants: a `Refusal::map` proves, but would
+    // be public and ask that its closure may be called, and no public function has a `requires`.
     fn locate(self, refusal: Refusal<Failure>) -> Refusal<Fault>
         ensures { told fault_values result ≡ located self.number (told failure_values refusal) }
     {
-        refusal.map(|failure| Fault {
-            cause: failure.cause,
-            register: self.number + u16::from(failure.stored),
-            errand: Errand::Asked,
-        })
+        match refusal {
+            Refusal::Length => Refusal::Length,
+            Refusal::Register => Refusal::Register,
+            Refusal::Live => Refusal::Live,
+            Refusal::Setting => Refusal::Setting,
+            Refusal::Asleep => Refusal::Asleep,
+            Refusal::Line(failure) => Refusal::Line(Fault {
+                cause: failure.cause,
+                register: self.number + u16::from(failure.stored),
+                errand: Errand::Asked,
+            }),
+            Refusal::Address => Refusal::Address,
+            Refusal::Memory => Refusal::Memory,
+        }
     }
 }
 
