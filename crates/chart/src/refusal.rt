@@ -1,13 +1,16 @@
 // How a call says no: eight refusals, each with its number.
 ghost use Rattle.std.specs.Prelude.{◌≡◌, ℕ, List, [], Some};
 ghost use Rattle.chart.specs.Replies.{told, cause_number, errand_number, failure_values, fault_values};
-ghost use Rattle.chart.specs.Names.{refusal_name, failure_text, fault_text, refusal_shown};
+ghost use Rattle.chart.specs.Names.{refusal_name, tale_text, refusal_text};
+ghost use Rattle.std.proofs.Common.{refl};
 
 use std::fmt;
 
-// What a failed transfer tells, as numbers: the values of its refusal.
-pub trait Tells {
+// What a failed transfer tells, as numbers, which are the values of its refusal, and in text.
+pub trait Tells: fmt::Display {
     ghost values: { Self → List ℕ };
+
+    ghost prints: { (f : Self) → Self.output f ≡ Some (tale_text (values f)) };
 }
 
 // `F` is what a failed transfer tells: on a bus a `Failure`, on a port a `Fault`.
@@ -65,8 +68,8 @@ impl<F> Refusal<F> {
 }
 
 // A refusal by its number and its name, and then what the failed transfer tells.
-impl<F: fmt::Display> fmt::Display for Refusal<F> {
-    ghost output = { refusal_shown F.Display.output };
+impl<F: Tells> fmt::Display for Refusal<F> {
+    ghost output = { λ e. Some (refusal_text (told F.Tells.values e)) };
 
     fn fmt<W: fmt::Write>(&self, f: &mut fmt::Formatter<W>) -> fmt::Result {
         let number = self.number();
@@ -102,10 +105,12 @@ pub struct Failure {
 
 impl Tells for Failure {
     ghost values = { failure_values };
+
+    ghost prints = { λ f. refl };
 }
 
 impl fmt::Display for Failure {
-    ghost output = { λ x. Some (failure_text x) };
+    ghost output = { λ x. Some (tale_text (failure_values x)) };
 
     fn fmt<W: fmt::Write>(&self, f: &mut fmt::Formatter<W>) -> fmt::Result {
         let cause = self.cause.number();
@@ -139,10 +144,12 @@ pub struct Fault {
 
 impl Tells for Fault {
     ghost values = { fault_values };
+
+    ghost prints = { λ f. refl };
 }
 
 impl fmt::Display for Fault {
-    ghost output = { λ x. Some (fault_text x) };
+    ghost output = { λ x. Some (tale_text (fault_values x)) };
 
     fn fmt<W: fmt::Write>(&self, f: &mut fmt::Formatter<W>) -> fmt::Result {
         let cause = self.cause.number();

@@ -1,3 +1,4 @@
 #![tactic(auto)]
 
 pub mod answer;
+pub mod calls;

@@ -1,5 +1,5 @@
 -- What a line says. Assumes nothing.
-use Rattle.std.specs.Prelude.{◌≡◌, ℕ, cond, List, [], ◌∷◌, length, Ok, Err, vec_items, codes, Result, ◌==◌, nat_lt, slice_index}
+use Rattle.std.specs.Prelude.{◌≡◌, ℕ, Bool, cond, ◌||◌, List, [], ◌∷◌, length, Ok, Err, vec_items, codes, Result, ◌==◌, nat_lt, slice_index}
 use Rattle.std.specs.Option.{ok_or}
 use Rattle.std.specs.Str.{bytes_eq}
 use Rattle.sheet.specs.declared.Make.{Make}
@@ -8,15 +8,15 @@ use Rattle.sheet.specs.declared.Make.TheVariants.{I2c, Window}
 use Rattle.sheet.specs.declared.ChartName.TheVariants.{Head, Valve}
 use Rattle.sheet.specs.declared.Call.{Call}
 use Rattle.sheet.specs.declared.Call.TheVariants.{Get, Put, Measure, Down, Up}
-use Rattle.sheet.specs.declared.line.Statement.{Statement}
-use Rattle.sheet.specs.declared.line.Statement.TheVariants as statement
+use Rattle.sheet.specs.declared.PortCall.{PortCall}
+use Rattle.sheet.specs.declared.PortCall.TheVariants as port
 use Rattle.sheet.specs.declared.Mistake.{Mistake}
-use Rattle.sheet.specs.declared.Mistake.TheVariants.{UnknownStatement, WordCount, NotANumber, NotAMark, UnknownBus, UnknownChart}
+use Rattle.sheet.specs.declared.Mistake.TheVariants.{UnknownStatement, WordCount, NotANumber, NotAMark, UnknownBus, UnknownChart, UnknownPile, UnknownLayer, NoPile, UnderPile}
 use Rattle.sheet.specs.declared.LineError.{LineError}
 use Rattle.sheet.specs.declared.LineError.TheVariants.{Memory, Wrong}
 use Rattle.sheet.specs.Numeral.{numeral}
 
--- a call as a line asks for it
+-- a call on a bus as a line asks for it
 pub data Asked : Type 0 where
   get : ℕ → Asked
   put : ℕ → List ℕ → Asked
@@ -30,19 +30,6 @@ asked (Put raw ws) = put raw (vec_items ws)
 asked (Measure register word) = measure register word
 asked Down = down
 asked Up = up
-
--- a statement
-pub data Said : Type 0 where
-  bus : Make → Said
-  chart : ChartName → Said
-  marks : List ℕ → Said
-  call : Asked → Said
-
-abbrev pub said : Statement → Said
-said (statement.Bus make) = bus make
-said (statement.Chart name) = chart name
-said (statement.Marks ms) = marks (vec_items ms)
-said (statement.Call c) = call (asked c)
 
 abbrev pub map_ok : {X Y : Type 0} → (X → Y) → Result X Mistake → Result Y Mistake
 map_ok f (Ok x) = Ok (f x)
@@ -86,7 +73,7 @@ marks_of = all_of mark_of
 abbrev pub exactly : ℕ → List (List ℕ) → Result (List ℕ) Mistake
 exactly n ws = cond (length ws == n) (numbers_of ws) (Err WordCount)
 
--- the words of a statement that takes none, one number, two numbers
+-- the words of a statement that takes none, or one number, two, three
 abbrev pub nothing : List (List ℕ) → Result (Unit {0}) Mistake
 nothing ws = map_ok (λ _. tt) (exactly 0 ws)
 
@@ -95,6 +82,9 @@ one_number ws = map_ok (λ ns. slice_index ns 0) (exactly 1 ws)
 
 abbrev pub two_numbers : List (List ℕ) → Result (ℕ × ℕ) Mistake
 two_numbers ws = map_ok (λ ns. (slice_index ns 0, slice_index ns 1)) (exactly 2 ws)
+
+abbrev pub three_numbers : List (List ℕ) → Result (ℕ × ℕ × ℕ) Mistake
+three_numbers ws = map_ok (λ ns. (slice_index ns 0, slice_index ns 1, slice_index ns 2)) (exactly 3 ws)
 
 -- the words after each statement's name
 abbrev pub bus_of : List (List ℕ) → Result Make Mistake
@@ -108,6 +98,16 @@ abbrev pub chart_of : List (List ℕ) → Result ChartName Mistake
 chart_of [] = Err WordCount
 chart_of (w ∷ []) = chart_named w
 chart_of (w ∷ v ∷ vs) = Err WordCount
+
+-- no layer is known yet
+abbrev pub no_layer : List (List ℕ) → Result (Unit {0}) Mistake
+no_layer [] = Ok tt
+no_layer (w ∷ ws) = Err UnknownLayer
+
+-- paging, and no layer over it
+abbrev pub pile_of : List (List ℕ) → Result (Unit {0}) Mistake
+pile_of [] = Err WordCount
+pile_of (w ∷ ws) = cond (bytes_eq w (codes "paging")) (no_layer ws) (Err UnknownPile)
 
 abbrev pub get_of : List (List ℕ) → Result Asked Mistake
 get_of ws = map_ok get (one_number ws)
@@ -130,9 +130,29 @@ down_of ws = map_ok (λ _. down) (nothing ws)
 abbrev pub up_of : List (List ℕ) → Result Asked Mistake
 up_of ws = map_ok (λ _. up) (nothing ws)
 
--- a statement by its name and the words after it
-abbrev pub call_named : List ℕ → List (List ℕ) → Result Asked Mistake
-call_named name ws = cond (bytes_eq name (codes "get")) (get_of ws) (cond (bytes_eq name (codes "put")) (put_of ws) (cond (bytes_eq name (codes "measure")) (measure_of ws) (cond (bytes_eq name (codes "down")) (down_of ws) (cond (bytes_eq name (codes "up")) (up_of ws) (Err UnknownStatement)))))
+-- a name of the calls on a pile, and of those on a bus alone
+abbrev pub only_on_pile : List ℕ → Bool
+only_on_pile name = bytes_eq name (codes "read") || bytes_eq name (codes "update")
 
-abbrev pub statement_named : List ℕ → List (List ℕ) → Result Said Mistake
-statement_named name ws = cond (bytes_eq name (codes "bus")) (map_ok bus (bus_of ws)) (cond (bytes_eq name (codes "chart")) (map_ok chart (chart_of ws)) (cond (bytes_eq name (codes "marks")) (map_ok marks (marks_of ws)) (map_ok call (call_named name ws))))
+abbrev pub only_on_bus : List ℕ → Bool
+only_on_bus name = bytes_eq name (codes "get") || bytes_eq name (codes "put")
+
+-- a call on a bus by its name and the words after it
+abbrev pub call_named : List ℕ → List (List ℕ) → Result Asked Mistake
+call_named name ws =
+    cond (bytes_eq name (codes "get")) (get_of ws)
+    (cond (bytes_eq name (codes "put")) (put_of ws)
+    (cond (bytes_eq name (codes "measure")) (measure_of ws)
+    (cond (bytes_eq name (codes "down")) (down_of ws)
+    (cond (bytes_eq name (codes "up")) (up_of ws)
+    (Err (cond (only_on_pile name) NoPile UnknownStatement))))))
+
+-- a call on a pile
+abbrev pub port_call_named : List ℕ → List (List ℕ) → Result PortCall Mistake
+port_call_named name ws =
+    cond (bytes_eq name (codes "read")) (map_ok port.Read (one_number ws))
+    (cond (bytes_eq name (codes "update")) (map_ok (λ p. port.Update p.0 p.1 p.2) (three_numbers ws))
+    (cond (bytes_eq name (codes "measure")) (map_ok (λ p. port.Measure p.0 p.1) (two_numbers ws))
+    (cond (bytes_eq name (codes "down")) (map_ok (λ _. port.Down) (nothing ws))
+    (cond (bytes_eq name (codes "up")) (map_ok (λ _. port.Up) (nothing ws))
+    (Err (cond (only_on_bus name) UnderPile UnknownStatement))))))

@@ -1,19 +1,32 @@
 -- What a sheet says as a whole. Assumes nothing.
-use Rattle.std.specs.Prelude.{◌≡◌, ℕ, ◌+◌, Bool, true, false, cond, ◌&&◌, List, [], ◌∷◌, ◌++◌, map, is_some, Some, None, Ok, Err, vec_items, Option, Result}
+use Rattle.std.specs.Prelude.{◌≡◌, ℕ, ◌+◌, Bool, true, false, cond, ◌&&◌, List, [], ◌∷◌, ◌++◌, map, codes, is_some, Some, None, Ok, Err, vec_items, Option, Result}
 use Rattle.std.specs.Option.{unwrap_or}
+use Rattle.std.specs.Str.{bytes_eq}
 use Rattle.sheet.specs.declared.ChartName.{ChartName}
 use Rattle.sheet.specs.declared.ChartName.TheVariants.{Head}
 use Rattle.sheet.specs.declared.Fault.{Fault}
 use Rattle.sheet.specs.declared.Fault.TheVariants.{Memory, Wrong}
 use Rattle.sheet.specs.declared.Make.{Make}
 use Rattle.sheet.specs.declared.Make.TheVariants.{I2c, Window}
+use Rattle.sheet.specs.declared.Calls.{Calls}
+use Rattle.sheet.specs.declared.Calls.TheVariants.{Bus, Pile}
+use Rattle.sheet.specs.declared.PortCall.{PortCall}
 use Rattle.sheet.specs.declared.Mistake.{Mistake}
-use Rattle.sheet.specs.declared.Mistake.TheVariants.{SecondBus, SecondChart, LateOpening, NoBus, MarksOnWindow}
+use Rattle.sheet.specs.declared.Mistake.TheVariants.{SecondBus, SecondChart, SecondPile, LateOpening, NoBus, MarksOnWindow}
 use Rattle.sheet.specs.declared.Sheet.{Sheet}
 use Rattle.sheet.specs.declared.LineError.{LineError}
 use Rattle.sheet.specs.declared.LineError.TheVariants as line_error
 use Rattle.sheet.specs.Cut.{before, words_of, lines_of}
-use Rattle.sheet.specs.Said.{Asked, Said, bus, chart, marks, call, asked, statement_named}
+use Rattle.sheet.specs.Said.{Asked, asked, bus_of, chart_of, marks_of, pile_of, call_named, port_call_named}
+
+-- what is to be performed: calls on a bus alone, or on a pile over it
+pub data Job : Type 0 where
+  on_bus : List Asked → Job
+  on_pile : List PortCall → Job
+
+abbrev pub job_of : Calls → Job
+job_of (Bus cs) = on_bus (map asked (vec_items cs))
+job_of (Pile cs) = on_pile (vec_items cs)
 
 -- what has been said so far
 pub record Sofar : Type 0 where
@@ -21,10 +34,10 @@ pub record Sofar : Type 0 where
   pub name : Option ChartName
   pub marked : Bool
   pub marks : List ℕ
-  pub calls : List Asked
+  pub job : Job
 
 abbrev pub blank_sheet : Sofar
-blank_sheet = record { make = None; name = None; marked = false; marks = []; calls = [] }
+blank_sheet = record { make = None; name = None; marked = false; marks = []; job = on_bus [] }
 
 abbrev pub is_window : Make → Bool
 is_window (I2c a) = false
@@ -38,40 +51,57 @@ abbrev pub none : {X : Type 0} → List X → Bool
 none [] = true
 none (x ∷ xs) = false
 
+abbrev pub no_calls : Job → Bool
+no_calls (on_bus cs) = none cs
+no_calls (on_pile cs) = none cs
+
+abbrev pub is_pile : Job → Bool
+is_pile (on_bus cs) = false
+is_pile (on_pile cs) = true
+
+-- what the words of a line say, put in its place, or the first mistake in them
+abbrev pub placed : {X : Type 0} → Result X Mistake → (X → Result Sofar Mistake) → Result Sofar Mistake
+placed (Ok x) at = at x
+placed (Err m) at = Err m
+
 -- an opening line comes before the first call
 abbrev pub early : Sofar → Result Sofar Mistake → Result Sofar Mistake
-early d r = cond (none d.calls) r (Err LateOpening)
+early d r = cond (no_calls d.job) r (Err LateOpening)
 
 abbrev pub with_bus : Sofar → Make → Result Sofar Mistake
-with_bus d m = early d (cond (is_some d.make) (Err SecondBus) (cond (d.marked && is_window m) (Err MarksOnWindow)
-    (Ok (record { make = Some m; name = d.name; marked = d.marked; marks = d.marks; calls = d.calls }))))
+with_bus d m = early d (cond (is_some d.make) (Err SecondBus) (cond (d.marked && is_window m) (Err MarksOnWindow) (Ok (record d { make = Some m }))))
 
 abbrev pub with_chart : Sofar → ChartName → Result Sofar Mistake
-with_chart d c = early d (cond (is_some d.name) (Err SecondChart)
-    (Ok (record { make = d.make; name = Some c; marked = d.marked; marks = d.marks; calls = d.calls })))
+with_chart d c = early d (cond (is_some d.name) (Err SecondChart) (Ok (record d { name = Some c })))
 
 abbrev pub with_marks : Sofar → List ℕ → Result Sofar Mistake
-with_marks d ms = early d (cond (on_window d.make) (Err MarksOnWindow)
-    (Ok (record { make = d.make; name = d.name; marked = true; marks = d.marks ++ ms; calls = d.calls })))
+with_marks d ms = early d (cond (on_window d.make) (Err MarksOnWindow) (Ok (record d { marked = true; marks = d.marks ++ ms })))
 
-abbrev pub with_call : Sofar → Asked → Result Sofar Mistake
-with_call d c = cond (is_some d.make)
-    (Ok (record { make = d.make; name = d.name; marked = d.marked; marks = d.marks; calls = d.calls ++ c ∷ [] })) (Err NoBus)
+abbrev pub with_pile : Sofar → Result Sofar Mistake
+with_pile d = early d (cond (is_pile d.job) (Err SecondPile) (Ok (record d { job = on_pile [] })))
 
-abbrev pub taken : Sofar → Said → Result Sofar Mistake
-taken d (bus m) = with_bus d m
-taken d (chart c) = with_chart d c
-taken d (marks ms) = with_marks d ms
-taken d (call c) = with_call d c
+-- a call comes after the bus
+abbrev pub with_job : Sofar → Job → Result Sofar Mistake
+with_job d job = cond (is_some d.make) (Ok (record d { job = job })) (Err NoBus)
 
-abbrev pub taken_ok : Sofar → Result Said Mistake → Result Sofar Mistake
-taken_ok d (Ok s) = taken d s
-taken_ok d (Err m) = Err m
+-- which calls a line may hold is settled by what they are performed on
+abbrev pub with_call : Sofar → Job → List ℕ → List (List ℕ) → Result Sofar Mistake
+with_call d (on_bus cs) name ws = placed (call_named name ws) (λ c. with_job d (on_bus (cs ++ c ∷ [])))
+with_call d (on_pile cs) name ws = placed (port_call_named name ws) (λ c. with_job d (on_pile (cs ++ c ∷ [])))
+
+-- a statement by its name and the words after it
+abbrev pub with_statement : Sofar → List ℕ → List (List ℕ) → Result Sofar Mistake
+with_statement d name ws =
+    cond (bytes_eq name (codes "bus")) (placed (bus_of ws) (with_bus d))
+    (cond (bytes_eq name (codes "chart")) (placed (chart_of ws) (with_chart d))
+    (cond (bytes_eq name (codes "marks")) (placed (marks_of ws) (with_marks d))
+    (cond (bytes_eq name (codes "pile")) (placed (pile_of ws) (λ _. with_pile d))
+    (with_call d d.job name ws))))
 
 -- a line that has no words says nothing
 abbrev pub after_words : Sofar → List (List ℕ) → Result Sofar Mistake
 after_words d [] = Ok d
-after_words d (name ∷ ws) = taken_ok d (statement_named name ws)
+after_words d (name ∷ ws) = with_statement d name ws
 
 abbrev pub after_line : Sofar → List ℕ → Result Sofar Mistake
 after_line d line = after_words d (words_of (before 35 line))
@@ -81,15 +111,15 @@ pub record Whole : Type 0 where
   pub make : Make
   pub name : ChartName
   pub marks : List ℕ
-  pub calls : List Asked
+  pub job : Job
 
 abbrev pub whole : Sheet → Whole
-whole s = record { make = s.make; name = s.chart; marks = vec_items s.marks; calls = map asked (vec_items s.calls) }
+whole s = record { make = s.make; name = s.chart; marks = vec_items s.marks; job = job_of s.calls }
 
 -- at the end of the text, at the line after the last
 abbrev pub finished_with : ℕ → Sofar → Option Make → Result Whole (ℕ × Mistake)
 finished_with n d None = Err (n, NoBus)
-finished_with n d (Some m) = Ok (record { make = m; name = unwrap_or d.name Head; marks = d.marks; calls = d.calls })
+finished_with n d (Some m) = Ok (record { make = m; name = unwrap_or d.name Head; marks = d.marks; job = d.job })
 
 abbrev pub finished : ℕ → Sofar → Result Whole (ℕ × Mistake)
 finished n d = finished_with n d d.make

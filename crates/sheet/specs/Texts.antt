@@ -2,6 +2,8 @@
 use Rattle.std.specs.Prelude.{ℕ, ◌+◌, ◌/◌, ◌%◌, cond, List, [], ◌∷◌, ◌++◌, codes, decimal, nat_lt}
 use Rattle.std.specs.List.{flat_map}
 use Rattle.sheet.specs.Said.{Asked, get, put, measure, down, up}
+use Rattle.sheet.specs.declared.PortCall.{PortCall}
+use Rattle.sheet.specs.declared.PortCall.TheVariants.{Read, Update, Measure, Down, Up}
 
 -- a hexadecimal digit, with letters in upper case
 abbrev pub hex_digit : ℕ → ℕ
@@ -25,3 +27,10 @@ call_text (put raw ws) = codes "put " ++ (decimal raw ++ words_text ws)
 call_text (measure register w) = codes "measure " ++ (decimal register ++ (codes " " ++ word_text w))
 call_text down = codes "down"
 call_text up = codes "up"
+
+abbrev pub port_call_text : PortCall → List ℕ
+port_call_text (Read register) = codes "read " ++ decimal register
+port_call_text (Update register mask bits) = codes "update " ++ (decimal register ++ (codes " " ++ (word_text mask ++ (codes " " ++ word_text bits))))
+port_call_text (Measure register w) = codes "measure " ++ (decimal register ++ (codes " " ++ word_text w))
+port_call_text Down = codes "down"
+port_call_text Up = codes "up"

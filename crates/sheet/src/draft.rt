@@ -1,11 +1,10 @@
 // What a sheet has said so far.
 ghost use Rattle.std.specs.Prelude.{◌≡◌, cond, vec_items};
-ghost use Rattle.sheet.specs.Said.{Gives, map_ok, asked, said};
-ghost use Rattle.sheet.specs.Sheets.{blank_sheet, none, with_bus, with_chart, with_marks, with_call, taken, after_line, finished, Reads};
+ghost use Rattle.sheet.specs.Said.{Gives, map_ok};
+ghost use Rattle.sheet.specs.Sheets.{blank_sheet, no_calls, with_bus, with_chart, with_marks, with_pile, with_call, with_statement, after_line, finished, Reads};
 
 use crate::cut::{Words, uncommented};
-use crate::line::{Statement, read_statement};
-use crate::{Call, ChartName, Fault, LineError, Make, Mistake, Sheet};
+use crate::{Calls, ChartName, Fault, LineError, Make, Mistake, Sheet, line};
 use std::alloc::Global;
 use std::marker::Model;
 
@@ -16,18 +15,17 @@ pub struct Draft {
     chart: Option<ChartName>,
     // Of all `marks` lines, where one came.
     marks: Option<Vec<u8>>,
-    calls: Vec<Call>,
+    calls: Calls,
 }
 
 impl Model for Draft {
-    ghost use Rattle.std.specs.Prelude.{[], map, is_some, vec_items};
+    ghost use Rattle.std.specs.Prelude.{[], is_some, vec_items};
     ghost use Rattle.std.specs.Option.{option_map, unwrap_or};
-    ghost use Rattle.sheet.specs.Said.{asked};
-    ghost use Rattle.sheet.specs.Sheets.{Sofar};
+    ghost use Rattle.sheet.specs.Sheets.{Sofar, job_of};
 
     ghost Value = { Sofar };
 
-    ghost view = { λ d. record { make = d.make; name = d.chart; marked = is_some d.marks; marks = unwrap_or (option_map vec_items d.marks) []; calls = map asked (vec_items d.calls) } };
+    ghost view = { λ d. record { make = d.make; name = d.chart; marked = is_some d.marks; marks = unwrap_or (option_map vec_items d.marks) []; job = job_of d.calls } };
 }
 
 impl Draft {
@@ -39,13 +37,13 @@ impl Draft {
             make: None,
             chart: None,
             marks: None,
-            calls: Vec::new(heap),
+            calls: Calls::Bus(Vec::new(heap)),
         }
     }
 
     // Whether an opening line may still come.
     fn opening(&self) -> Result<(), Mistake>
-        ensures { result ≡ cond (none self.now.calls) (Ok tt) (Err Mistake.LateOpening) }
+        ensures { result ≡ cond (no_calls self.now.job) (Ok tt) (Err Mistake.LateOpening) }
     {
         if self.calls.is_empty() {
             Ok(())
@@ -94,24 +92,55 @@ impl Draft {
         Ok(())
     }
 
-    fn call(&mut self, call: Call) -> Result<(), LineError>
-        ensures { Gives (λ _. self.new) result (with_call self.old (asked call)) }
+    fn pile(&mut self) -> Result<(), Mistake>
+        ensures { map_ok (λ _. self.new) result ≡ with_pile self.old }
     {
-        if self.make.is_none() {
-            return Err(Mistake::NoBus.into());
+        self.opening()?;
+        if matches!(self.calls, Calls::Pile(_)) {
+            return Err(Mistake::SecondPile);
         }
-        self.calls.push(call)?;
+        self.calls = Calls::Pile(Vec::new(self.heap));
         Ok(())
     }
 
-    fn take(&mut self, statement: Statement) -> Result<(), LineError>
-        ensures { Gives (λ _. self.new) result (taken self.old (said statement)) }
+    // Which calls a line may hold is settled by what they are performed on.
+    fn call(&mut self, name: &[u8], words: Words) -> Result<(), LineError>
+        ensures { Gives (λ _. self.new) result (with_call self.old self.old.job name.now words.entry) }
     {
-        match statement {
-            Statement::Bus(make) => Ok(self.bus(make)?),
-            Statement::Chart(name) => Ok(self.chart(name)?),
-            Statement::Marks(marks) => self.marks(marks),
-            Statement::Call(call) => self.call(call),
+        let placed = self.make.is_some();
+        match &mut self.calls {
+            Calls::Bus(calls) => {
+                let call = line::read_call(self.heap, name, words)?;
+                if !placed {
+                    return Err(Mistake::NoBus.into());
+                }
+                calls.push(call)?;
+            }
+            Calls::Pile(calls) => {
+                let call = line::read_port_call(name, words)?;
+                if !placed {
+                    return Err(Mistake::NoBus.into());
+                }
+                calls.push(call)?;
+            }
+        }
+        Ok(())
+    }
+
+    // Takes a statement by its name and the words after it.
+    #[tactic(auto, using(crate::proofs::Naming::names))]
+    fn statement(&mut self, name: &[u8], words: Words) -> Result<(), LineError>
+        ensures { Gives (λ _. self.new) result (with_statement self.old name.now words.entry) }
+    {
+        match name {
+            b"bus" => Ok(self.bus(line::bus(words)?)?),
+            b"chart" => Ok(self.chart(line::chart(words)?)?),
+            b"marks" => self.marks(line::marks(self.heap, words)?),
+            b"pile" => {
+                line::pile(words)?;
+                Ok(self.pile()?)
+            }
+            _ => self.call(name, words),
         }
     }
 
@@ -123,8 +152,7 @@ impl Draft {
         let Some(name) = words.next() else {
             return Ok(());
         };
-        let statement = read_statement(self.heap, name, words)?;
-        self.take(statement)
+        self.statement(name, words)
     }
 
     // The sheet, where the text ends before this line.

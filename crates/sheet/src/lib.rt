@@ -6,21 +6,26 @@
 //     bus i2c ADDRESS | bus window          once, before the first call
 //     chart head | chart valve              at most once; `head` where it is left out
 //     marks N ..                            on i2c only; further lines add to it
-//     get RAW
+//     pile paging                           at most once; without it the calls go to the bus itself
+//
+//     get RAW                               on a bus
 //     put RAW WORD ..
-//     measure REGISTER WORD
+//     read REGISTER                         on a pile
+//     update REGISTER MASK BITS
+//     measure REGISTER WORD                 on either
 //     down
 //     up
 //
-// The first three open a sheet, in any order, and come before the first call. Of the mistakes of one line the one that is
-// told is the first of: an unknown statement, the number of its words, its words from left to right, and its place in the sheet.
-// The make of a bus comes before the number of words, which it decides.
+// The first four open a sheet, in any order, and come before the first call. Of the mistakes of one line the one that is
+// told is the first of: an unknown statement or one for the other kind of calls, the number of its words, its words from left to
+// right, and its place in the sheet. The make of a bus comes before the number of words, which it decides.
 #![tactic(auto)]
 
-ghost use Rattle.std.specs.Prelude.{◌≡◌, Some};
+ghost use Rattle.std.specs.Prelude.{◌≡◌, ℕ, List, Some};
+ghost use Rattle.std.proofs.Common.{refl};
 ghost use Rattle.sheet.specs.Said.{asked};
-ghost use Rattle.sheet.specs.Sheets.{at_line, sheet_of, Reads};
-ghost use Rattle.sheet.specs.Texts.{call_text};
+ghost use Rattle.sheet.specs.Sheets.{job_of, no_calls, at_line, sheet_of, Reads};
+ghost use Rattle.sheet.specs.Texts.{word_text, call_text, port_call_text};
 ghost use Rattle.sheet.specs.declared.LineError.TheVariants.{Memory, Wrong};
 
 use cut::Lines;
@@ -48,7 +53,14 @@ pub enum ChartName {
     Valve,
 }
 
-// Clauses see it through `asked`, since an enum cannot have a model yet.
+// What always prints one text, which clauses can name.
+pub trait Prints: fmt::Display {
+    ghost text: { Self → List ℕ };
+
+    ghost prints: { (x : Self) → Self.output x ≡ Some (text x) };
+}
+
+// A call on a bus. Clauses see it through `asked`, since an enum cannot have a model yet.
 #[derive(Debug, PartialEq, Eq, Drop)]
 pub enum Call {
     Get { raw: u16 },
@@ -58,27 +70,109 @@ pub enum Call {
     Up,
 }
 
+// A call on the port on top of a pile.
+#[derive(Clone, Copy, Debug, PartialEq, Eq)]
+pub enum PortCall {
+    Read { register: u16 },
+    Update { register: u16, mask: u16, bits: u16 },
+    Measure { register: u16, word: u16 },
+    Down,
+    Up,
+}
+
+// A register's word, which prints as `0x` and four digits.
+#[derive(Clone, Copy, Debug, PartialEq, Eq)]
+pub struct Word(pub u16);
+
+impl fmt::Display for Word {
+    ghost output = { λ w. Some (word_text w.0) };
+
+    #[tactic(auto, using(crate::proofs::Hexing::word_written))]
+    fn fmt<W: fmt::Write>(&self, f: &mut fmt::Formatter<W>) -> fmt::Result {
+        let word = self.0;
+        write!(f, "0x{word:04X}")
+    }
+}
+
 // A call as a sheet writes it.
 impl fmt::Display for Call {
     ghost output = { λ c. Some (call_text (asked c)) };
 
-    #[tactic(auto, using(std::proofs::lemmas::Grind::common_steps, crate::proofs::Hexing::word_written))]
+    #[tactic(auto, using(std::proofs::lemmas::Grind::common_steps))]
     fn fmt<W: fmt::Write>(&self, f: &mut fmt::Formatter<W>) -> fmt::Result {
         match self {
             Call::Get { raw } => write!(f, "get {raw}"),
             Call::Put { raw, words } => {
                 write!(f, "put {raw}")?;
                 for word in words {
-                    write!(f, " 0x{word:04X}")?;
+                    let word = Word(*word);
+                    write!(f, " {word}")?;
                 }
                 Ok(())
             }
             Call::Measure { register, word } => {
-                let word = *word;
-                write!(f, "measure {register} 0x{word:04X}")
+                let word = Word(*word);
+                write!(f, "measure {register} {word}")
             }
             Call::Down => write!(f, "down"),
             Call::Up => write!(f, "up"),
+        }
+    }
+}
+
+impl Prints for Call {
+    ghost text = { λ c. call_text (asked c) };
+
+    ghost prints = { λ c. refl };
+}
+
+// As a sheet writes it.
+impl fmt::Display for PortCall {
+    ghost output = { λ c. Some (port_call_text c) };
+
+    #[tactic(auto, using(std::proofs::lemmas::Grind::common_steps))]
+    fn fmt<W: fmt::Write>(&self, f: &mut fmt::Formatter<W>) -> fmt::Result {
+        match *self {
+            PortCall::Read { register } => write!(f, "read {register}"),
+            PortCall::Update {
+                register,
+                mask,
+                bits,
+            } => {
+                let mask = Word(mask);
+                let bits = Word(bits);
+                write!(f, "update {register} {mask} {bits}")
+            }
+            PortCall::Measure { register, word } => {
+                let word = Word(word);
+                write!(f, "measure {register} {word}")
+            }
+            PortCall::Down => write!(f, "down"),
+            PortCall::Up => write!(f, "up"),
+        }
+    }
+}
+
+impl Prints for PortCall {
+    ghost text = { port_call_text };
+
+    ghost prints = { λ c. refl };
+}
+
+// The calls of a sheet, by what they are performed on: a bus alone, or a pile.
+#[derive(Debug, PartialEq, Eq, Drop)]
+pub enum Calls {
+    Bus(Vec<Call>),
+    Pile(Vec<PortCall>),
+}
+
+impl Calls {
+    fn is_empty(&self) -> bool
+        ensures { result ≡ no_calls (job_of self.now) }
+    {
+        match self {
+            Calls::Bus(calls) => calls.is_empty(),
+            Calls::Pile(calls) => calls.is_empty(),
         }
     }
 }
@@ -97,14 +191,24 @@ pub enum Mistake {
     UnknownBus,
     #[error("unknown chart")]
     UnknownChart,
+    #[error("a pile that does not begin with paging")]
+    UnknownPile,
+    #[error("unknown layer")]
+    UnknownLayer,
     #[error("a second bus line")]
     SecondBus,
     #[error("a second chart line")]
     SecondChart,
+    #[error("a second pile line")]
+    SecondPile,
     #[error("an opening line after the first call")]
     LateOpening,
     #[error("no bus line before this")]
     NoBus,
+    #[error("no pile line before this")]
+    NoPile,
+    #[error("a call on the bus under a pile")]
+    UnderPile,
     #[error("marks together with a window")]
     MarksOnWindow,
 }
@@ -114,7 +218,7 @@ pub struct Sheet {
     pub make: Make,
     pub chart: ChartName,
     pub marks: Vec<u8>,
-    pub calls: Vec<Call>,
+    pub calls: Calls,
 }
 
 // Why a sheet is not taken. Lines are numbered from 1.

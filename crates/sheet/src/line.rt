@@ -1,19 +1,11 @@
 // Reads the words of one line.
 ghost use Rattle.std.specs.Prelude.{◌≡◌, ℕ, List, Result, vec_items};
-ghost use Rattle.sheet.specs.Said.{Gives, exactly, all_of, asked, said, map_ok, call_named, statement_named, bus_of, chart_of, marks_of, get_of, put_of, measure_of, number_of, mark_of};
+ghost use Rattle.sheet.specs.Said.{Gives, exactly, all_of, asked, map_ok, call_named, port_call_named, bus_of, chart_of, marks_of, pile_of, get_of, put_of, measure_of, number_of, mark_of};
 
 use crate::cut::Words;
 use crate::digits::number;
-use crate::{Call, ChartName, LineError, Make, Mistake};
+use crate::{Call, ChartName, LineError, Make, Mistake, PortCall};
 use std::alloc::Global;
-
-#[derive(Drop)]
-pub enum Statement {
-    Bus(Make),
-    Chart(ChartName),
-    Marks(Vec<u8>),
-    Call(Call),
-}
 
 fn a_number(word: &[u8]) -> Result<u16, Mistake>
     ensures { result ≡ number_of word.now }
@@ -61,7 +53,7 @@ fn all<T: Drop, F: Fn(&[u8]) -> Result<T, Mistake>>(
 }
 
 #[tactic(auto, using(crate::proofs::Naming::names))]
-fn bus(mut words: Words) -> Result<Make, Mistake>
+pub fn bus(mut words: Words) -> Result<Make, Mistake>
     ensures { result ≡ bus_of words.entry }
 {
     match words.next().ok_or(Mistake::WordCount)? {
@@ -77,7 +69,7 @@ fn bus(mut words: Words) -> Result<Make, Mistake>
     }
 }
 
-fn chart(mut words: Words) -> Result<ChartName, Mistake>
+pub fn chart(mut words: Words) -> Result<ChartName, Mistake>
     ensures { result ≡ chart_of words.entry }
 {
     let (Some(name), None) = (words.next(), words.next()) else {
@@ -90,10 +82,24 @@ fn chart(mut words: Words) -> Result<ChartName, Mistake>
     }
 }
 
-fn marks(heap: Global, words: Words) -> Result<Vec<u8>, LineError>
+pub fn marks(heap: Global, words: Words) -> Result<Vec<u8>, LineError>
     ensures { Gives vec_items result (marks_of words.entry) }
 {
     all(heap, words, a_mark)
+}
+
+// Paging, and no layer over it: none is known yet.
+#[tactic(auto, using(crate::proofs::Naming::names))]
+pub fn pile(mut words: Words) -> Result<(), Mistake>
+    ensures { result ≡ pile_of words.entry }
+{
+    match words.next().ok_or(Mistake::WordCount)? {
+        b"paging" => match words.next() {
+            Some(_) => Err(Mistake::UnknownLayer),
+            None => Ok(()),
+        },
+        _ => Err(Mistake::UnknownPile),
+    }
 }
 
 fn get(words: Words) -> Result<Call, Mistake>
@@ -118,8 +124,9 @@ fn measure(words: Words) -> Result<Call, Mistake>
     Ok(Call::Measure { register, word })
 }
 
+// The call on a bus that a name begins.
 #[tactic(auto, using(crate::proofs::Naming::names))]
-fn read_call(heap: Global, name: &[u8], words: Words) -> Result<Call, LineError>
+pub fn read_call(heap: Global, name: &[u8], words: Words) -> Result<Call, LineError>
     ensures { Gives asked result (call_named name.now words.entry) }
 {
     match name {
@@ -134,19 +141,42 @@ fn read_call(heap: Global, name: &[u8], words: Words) -> Result<Call, LineError>
             let [] = numbers::<0>(words)?;
             Ok(Call::Up)
         }
+        b"read" | b"update" => Err(Mistake::NoPile.into()),
         _ => Err(Mistake::UnknownStatement.into()),
     }
 }
 
-// The statement that a name begins.
+// The call on a pile that a name begins.
 #[tactic(auto, using(crate::proofs::Naming::names))]
-pub fn read_statement(heap: Global, name: &[u8], words: Words) -> Result<Statement, LineError>
-    ensures { Gives said result (statement_named name.now words.entry) }
+pub fn read_port_call(name: &[u8], words: Words) -> Result<PortCall, Mistake>
+    ensures { result ≡ port_call_named name.now words.entry }
 {
     match name {
-        b"bus" => Ok(Statement::Bus(bus(words)?)),
-        b"chart" => Ok(Statement::Chart(chart(words)?)),
-        b"marks" => Ok(Statement::Marks(marks(heap, words)?)),
-        _ => Ok(Statement::Call(read_call(heap, name, words)?)),
+        b"read" => {
+            let [register] = numbers::<1>(words)?;
+            Ok(PortCall::Read { register })
+        }
+        b"update" => {
+            let [register, mask, bits] = numbers::<3>(words)?;
+            Ok(PortCall::Update {
+                register,
+                mask,
+                bits,
+            })
+        }
+        b"measure" => {
+            let [register, word] = numbers::<2>(words)?;
+            Ok(PortCall::Measure { register, word })
+        }
+        b"down" => {
+            let [] = numbers::<0>(words)?;
+            Ok(PortCall::Down)
+        }
+        b"up" => {
+            let [] = numbers::<0>(words)?;
+            Ok(PortCall::Up)
+        }
+        b"get" | b"put" => Err(Mistake::UnderPile),
+        _ => Err(Mistake::UnknownStatement),
     }
 }

@@ -4,4 +4,6 @@
 #[cfg(test)]
 mod mistakes;
 #[cfg(test)]
+mod piles;
+#[cfg(test)]
 mod transcripts;

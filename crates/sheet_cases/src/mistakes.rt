@@ -1,4 +1,4 @@
-use sheet::{Call, ChartName, Fault, Make, Mistake, Sheet, read};
+use sheet::{Call, Calls, ChartName, Fault, Make, Mistake, PortCall, Sheet, read};
 use std::alloc::Global;
 use std::process::Abort;
 use std::test::Fail;
@@ -31,7 +31,38 @@ fn reads_every_statement(rt: HostRuntime) -> Result<(), Fail> {
             make: Make::I2c(42),
             chart: ChartName::Valve,
             marks,
-            calls,
+            calls: Calls::Bus(calls),
+        }
+    );
+    Ok(())
+}
+
+#[test]
+fn reads_every_statement_of_a_pile(rt: HostRuntime) -> Result<(), Fail> {
+    let heap = rt.alloc();
+    let text =
+        b"pile  paging # and no layer\nbus window\nread 64\nupdate 0x41 255 0x00aA\nmeasure 112 7\ndown\nup\n";
+    let calls = vec![in heap;
+        PortCall::Read { register: 64 },
+        PortCall::Update {
+            register: 65,
+            mask: 255,
+            bits: 170
+        },
+        PortCall::Measure {
+            register: 112,
+            word: 7
+        },
+        PortCall::Down,
+        PortCall::Up,
+    ]?;
+    assert_eq!(rt;
+        read(heap, text)?,
+        Sheet {
+            make: Make::Window,
+            chart: ChartName::Head,
+            marks: Vec::new(heap),
+            calls: Calls::Pile(calls),
         }
     );
     Ok(())
@@ -44,7 +75,7 @@ fn leaves_out_what_may_be(rt: HostRuntime) -> Result<(), Fail> {
         make: Make::Window,
         chart: ChartName::Head,
         marks: Vec::new(heap),
-        calls: Vec::new(heap),
+        calls: Calls::Bus(Vec::new(heap)),
     };
     assert_eq!(rt; read(heap, b"bus window\n")?, sheet);
     Ok(())
@@ -117,4 +148,85 @@ fn tells_wrong_places(rt: HostRuntime) {
         2,
         Mistake::MarksOnWindow,
     );
+}
+
+// A line is `pile paging` and no more, and says which calls may follow.
+#[test]
+fn tells_wrong_piles(rt: HostRuntime) {
+    let heap = rt.alloc();
+    is_wrong(&rt, heap, b"bus window\npile", 2, Mistake::WordCount);
+    is_wrong(
+        &rt,
+        heap,
+        b"bus window\npile keeper paging",
+        2,
+        Mistake::UnknownPile,
+    );
+    is_wrong(
+        &rt,
+        heap,
+        b"bus window\npile paging paging",
+        2,
+        Mistake::UnknownLayer,
+    );
+    is_wrong(
+        &rt,
+        heap,
+        b"pile paging\nbus window\npile paging",
+        3,
+        Mistake::SecondPile,
+    );
+    is_wrong(
+        &rt,
+        heap,
+        b"bus window\nup\npile paging",
+        3,
+        Mistake::LateOpening,
+    );
+    is_wrong(&rt, heap, b"bus window\nread 5", 2, Mistake::NoPile);
+    is_wrong(&rt, heap, b"bus window\nupdate x", 2, Mistake::NoPile);
+    is_wrong(
+        &rt,
+        heap,
+        b"bus window\npile paging\nget 5",
+        3,
+        Mistake::UnderPile,
+    );
+    is_wrong(
+        &rt,
+        heap,
+        b"bus window\npile paging\nput",
+        3,
+        Mistake::UnderPile,
+    );
+    is_wrong(
+        &rt,
+        heap,
+        b"bus window\npile paging\nsync",
+        3,
+        Mistake::UnknownStatement,
+    );
+    is_wrong(
+        &rt,
+        heap,
+        b"bus window\npile paging\nread 1 2",
+        3,
+        Mistake::WordCount,
+    );
+    is_wrong(
+        &rt,
+        heap,
+        b"bus window\npile paging\nupdate 1 2",
+        3,
+        Mistake::WordCount,
+    );
+    is_wrong(
+        &rt,
+        heap,
+        b"bus window\npile paging\nupdate 1 2 65536",
+        3,
+        Mistake::NotANumber,
+    );
+    is_wrong(&rt, heap, b"pile paging\nread 5", 2, Mistake::NoBus);
+    is_wrong(&rt, heap, b"pile paging\n", 2, Mistake::NoBus);
 }

@@ -3,7 +3,7 @@ use std::process::Abort;
 use std::test::Fail;
 use transcript::transcript;
 
-fn shows(rt: &impl Abort, heap: Global, text: &[u8], expected: &str) -> Result<(), Fail> {
+pub fn shows(rt: &impl Abort, heap: Global, text: &[u8], expected: &str) -> Result<(), Fail> {
     let sheet = sheet::read(heap, text)?;
     assert_eq!(rt; transcript(heap, &sheet)?.as_str(), expected);
     Ok(())

@@ -3,8 +3,7 @@ use Rattle.std.specs.Prelude.{ℕ, ◌+◌, ◌-◌, min, Bool, true, false, con
 use Rattle.chart.specs.Names.{refusal_text}
 use Rattle.chart.specs.Replies.{Reply}
 use Rattle.perform.specs.Performed.{Seen}
-use Rattle.sheet.specs.Said.{Asked}
-use Rattle.sheet.specs.Texts.{byte_text, word_text, call_text}
+use Rattle.sheet.specs.Texts.{byte_text, word_text}
 use Rattle.i2c_target.specs.Traces.{Traced}
 use Rattle.i2c_target.specs.declared.event.Event.{Event}
 use Rattle.i2c_target.specs.declared.event.Event.TheVariants.{Start, Byte, Stop}
@@ -47,12 +46,12 @@ events_text begun (e ∷ es) = event_text begun e ++ events_text (goes_on e) es
 abbrev pub events_between : ℕ → ℕ → List Event → List Event
 events_between from to es = cond (nat_le from to) (cond (nat_le to (length es)) (take (to - from) (drop from es)) []) []
 
--- one call, its reply, and the transfers that it made
-abbrev pub call_lines : ℕ → Asked → Reply → List Event → List ℕ
-call_lines number c r es = (decimal number ++ codes " ") ++ (call_text c ++ (codes ": " ++ (reply_text r ++ (line_end ++ events_text false es))))
+-- one call by its text, its reply, and the transfers that it made
+abbrev pub call_lines : ℕ → List ℕ → Reply → List Event → List ℕ
+call_lines number c r es = (decimal number ++ codes " ") ++ (c ++ (codes ": " ++ (reply_text r ++ (line_end ++ events_text false es))))
 
 -- the calls with what was seen of them, numbered on after the given number; passed says how many of the events are earlier calls'
-abbrev pub calls_lines : List Event → ℕ → ℕ → List Asked → List Seen → List ℕ
+abbrev pub calls_lines : List Event → ℕ → ℕ → List (List ℕ) → List Seen → List ℕ
 calls_lines es number passed [] ss = []
 calls_lines es number passed (c ∷ cs) [] = []
 calls_lines es number passed (c ∷ cs) (s ∷ ss) = call_lines (number + 1) c s.reply (events_between passed s.passed es) ++ calls_lines es (number + 1) s.passed cs ss
@@ -65,8 +64,8 @@ full_text false = []
 abbrev pub tally_text : ℕ → ℕ → List ℕ
 tally_text count failed = codes "calls " ++ (decimal count ++ (codes ", failed transfers " ++ (decimal failed ++ line_end)))
 
--- the whole: what passed on the wire, how many transfers failed, the calls and what was seen of them
-abbrev pub transcript_text : Traced → ℕ → List Asked → List Seen → List ℕ
+-- the whole: what passed on the wire, how many transfers failed, the texts of the calls and what was seen of them
+abbrev pub transcript_text : Traced → ℕ → List (List ℕ) → List Seen → List ℕ
 transcript_text trace failed cs ss = calls_lines trace.events 0 0 cs ss ++ (full_text trace.overrun ++ tally_text (min (length cs) (length ss)) failed)
 
 -- the whole where no bus is made

@@ -1,31 +1,32 @@
 // The transcript as text, whose form tools read.
 ghost use Rattle.std.specs.Prelude.{◌≡◌, false, map, IfOk, Some, string_bytes};
 ghost use Rattle.chart.specs.Replies.{told, failure_values};
-ghost use Rattle.sheet.specs.Said.{asked};
 ghost use Rattle.perform.specs.Performed.{answer_reply, seen};
 ghost use Rattle.text.specs.Texts.{reply_text, event_text, goes_on, events_text, events_between, call_lines, calls_lines, full_text, transcript_text, unmade_text};
 
 use bus::bus::Bus;
-use chart::refusal::{Failure, Refusal};
+use chart::refusal::{Failure, Refusal, Tells};
 use i2c_target::event::Event;
 use perform::answer::{Answer, Outcome};
-use sheet::Call;
+use sheet::{Prints, Word};
 use std::alloc::{AllocError, Global};
 use std::fmt;
 
 // What a call answered.
 #[derive(Clone, Copy)]
-struct Reply {
-    answer: Answer,
+struct Reply<F> {
+    answer: Answer<F>,
 }
 
-impl fmt::Display for Reply {
-    ghost output = { λ x. Some (reply_text (answer_reply x.answer)) };
+impl<F: Tells + Copy> fmt::Display for Reply<F> {
+    ghost output = { λ x. Some (reply_text (answer_reply F.Tells.values x.answer)) };
 
-    #[tactic(auto, using(sheet::proofs::Hexing::word_written))]
     fn fmt<W: fmt::Write>(&self, f: &mut fmt::Formatter<W>) -> fmt::Result {
         match self.answer {
-            Ok(Some(word)) => write!(f, "0x{word:04X}"),
+            Ok(Some(word)) => {
+                let word = Word(word);
+                write!(f, "{word}")
+            }
             Ok(None) => write!(f, "ok"),
             Err(refusal) => write!(f, "{refusal}"),
         }
@@ -95,15 +96,15 @@ fn between(events: &[Event], from: usize, to: usize) -> &[Event]
 
 // A call, its answer, and the transfers that it made.
 #[derive(Clone, Copy)]
-struct Entry<'a> {
+struct Entry<'a, C, F> {
     number: usize,
-    call: &'a Call,
-    answer: Answer,
+    call: &'a C,
+    answer: Answer<F>,
     events: &'a [Event],
 }
 
-impl fmt::Display for Entry<'_> {
-    ghost output = { λ x. Some (call_lines x.number (asked x.call.now) (answer_reply x.answer) x.events.now) };
+impl<C: Prints, F: Tells + Copy> fmt::Display for Entry<'_, C, F> {
+    ghost output = { λ x. Some (call_lines x.number (C.text x.call.now) (answer_reply F.Tells.values x.answer) x.events.now) };
 
     fn fmt<W: fmt::Write>(&self, f: &mut fmt::Formatter<W>) -> fmt::Result {
         let number = self.number;
@@ -120,14 +121,14 @@ impl fmt::Display for Entry<'_> {
 
 // All calls, numbered from 1, over the events that passed for them.
 #[derive(Clone, Copy)]
-struct Entries<'a> {
+struct Entries<'a, C, F> {
     events: &'a [Event],
-    calls: &'a [Call],
-    outcomes: &'a [Outcome],
+    calls: &'a [C],
+    outcomes: &'a [Outcome<F>],
 }
 
-impl fmt::Display for Entries<'_> {
-    ghost output = { λ x. Some (calls_lines x.events.now 0 0 (map asked x.calls.now) (map seen x.outcomes.now)) };
+impl<C: Prints, F: Tells + Copy> fmt::Display for Entries<'_, C, F> {
+    ghost output = { λ x. Some (calls_lines x.events.now 0 0 (map C.text x.calls.now) (map (seen F.Tells.values) x.outcomes.now)) };
 
     fn fmt<W: fmt::Write>(&self, f: &mut fmt::Formatter<W>) -> fmt::Result {
         let mut passed = 0;
@@ -158,14 +159,14 @@ fn note(overrun: bool) -> &'static str
 
 // What calls answered on a bus, and what passed on its wire for each.
 #[derive(Drop)]
-struct Transcript<'a, B> {
+struct Transcript<'a, B, C, F> {
     bus: &'a B,
-    calls: &'a [Call],
-    outcomes: &'a [Outcome],
+    calls: &'a [C],
+    outcomes: &'a [Outcome<F>],
 }
 
-impl<B: Bus> fmt::Display for Transcript<'_, B> {
-    ghost output = { λ x. Some (transcript_text (B.Bus.trace (B.Bus.model x.bus.now)) (B.Bus.chip (B.Bus.model x.bus.now)).failed (map asked x.calls.now) (map seen x.outcomes.now)) };
+impl<B: Bus, C: Prints, F: Tells + Copy> fmt::Display for Transcript<'_, B, C, F> {
+    ghost output = { λ x. Some (transcript_text (B.Bus.trace (B.Bus.model x.bus.now)) (B.Bus.chip (B.Bus.model x.bus.now)).failed (map C.text x.calls.now) (map (seen F.Tells.values) x.outcomes.now)) };
 
     fn fmt<W: fmt::Write>(&self, f: &mut fmt::Formatter<W>) -> fmt::Result {
         let entries = Entries {
@@ -180,15 +181,15 @@ impl<B: Bus> fmt::Display for Transcript<'_, B> {
     }
 }
 
-// What the calls answered, and what passed for each.
+// What the calls answered, and what passed for each. The calls of a pile are shown over the bus at its bottom.
 // The two lists stay two: outcomes that name their calls would borrow them, which asks more of callers.
-pub fn written<B: Bus>(
+pub fn written<B: Bus, C: Prints, F: Tells + Copy>(
     heap: Global,
     bus: &B,
-    calls: &[Call],
-    outcomes: &[Outcome],
+    calls: &[C],
+    outcomes: &[Outcome<F>],
 ) -> Result<String, AllocError>
-    ensures { IfOk result (λ t. string_bytes t ≡ transcript_text (B.Bus.trace (B.Bus.model bus.now)) (B.Bus.chip (B.Bus.model bus.now)).failed (map asked calls.now) (map seen outcomes.now)) }
+    ensures { IfOk result (λ t. string_bytes t ≡ transcript_text (B.Bus.trace (B.Bus.model bus.now)) (B.Bus.chip (B.Bus.model bus.now)).failed (map C.text calls.now) (map (seen F.Tells.values) outcomes.now)) }
 {
     let transcript = Transcript {
         bus,
@@ -199,7 +200,6 @@ pub fn written<B: Bus>(
 }
 
 // The whole answer where no bus is made.
-#[tactic(auto, using(crate::proofs::Saying::refusal_said))]
 pub fn unmade(heap: Global, refusal: Refusal<Failure>) -> Result<String, AllocError>
     ensures { IfOk result (λ t. string_bytes t ≡ unmade_text (told failure_values refusal)) }
 {

@@ -1,5 +1,5 @@
 -- The text of a new bus, by its own model. Assumes nothing.
-use Rattle.std.proofs.Common.{◌≡◌, ℕ, ◌≤◌, false, List, [], length, MatchResult, IfOk, Ok, Err, string_bytes, Result, String, ap, ◌∙◌, inl, inr}
+use Rattle.std.proofs.Common.{◌≡◌, ℕ, ◌≤◌, false, List, [], length, MatchResult, IfOk, Ok, Err, string_bytes, Result, String, map, sym, ap, ◌∙◌, inl, inr}
 use Rattle.std.specs.Borrow.{MutBor}
 use Rattle.bus.specs.I2cs.{I2cModel, i2c_steps, i2c_chip, i2c_trace}
 use Rattle.bus.specs.Windows.{WindowModel, window_steps, window_chip, window_trace}
@@ -9,25 +9,41 @@ use Rattle.chart.specs.declared.class.Class.{Class}
 use Rattle.i2c.specs.Made.{I2cMade}
 use Rattle.i2c_target.specs.Traces.{Traced}
 use Rattle.i2c_target.specs.declared.trace.Trace.{Trace}
-use Rattle.sheet.specs.Said.{Asked}
-use Rattle.text.specs.Texts.{unmade_text}
+use Rattle.sheet.specs.Sheets.{Job, on_bus}
+use Rattle.text.specs.Texts.{transcript_text, unmade_text}
 use Rattle.transcript.proofs.Roomy.{none_left_out}
-use Rattle.transcript.specs.Told.{sheet_room, played, I2cTells, WindowTells}
+use mathlib.Core.List.{map-map}
+use Rattle.bus.specs.Chips.{Chip}
+use Rattle.bus.specs.Meaning.{Steps}
+use Rattle.perform.specs.Performed.{Seen, performed, walked}
+use Rattle.perform.proofs.Walking.{walked_through}
+use Rattle.sheet.specs.Said.{asked}
+use Rattle.sheet.specs.Texts.{call_text}
+use Rattle.sheet.specs.declared.Call.{Call}
+use Rattle.transcript.specs.Told.{job_room, played, I2cTells, WindowTells}
 use Rattle.window.specs.Made.{WindowMade}
 
-pub i2c_told : {Z E : Type 0} (class : ℕ → Class) (reset : ℕ → ℕ) (a : ℕ) (marks : List ℕ) (tr : Traced) (cs : List Asked) (made : Result I2cModel (Unmade Trace)) (r : Result (String Z) E)
-    → I2cMade reset a marks tr made → tr.events ≡ [] → tr.overrun ≡ false → sheet_room cs ≤ tr.room
-    → IfOk r (λ t. MatchResult made (λ b. string_bytes t ≡ played (i2c_steps class reset) i2c_trace i2c_chip cs b) (λ e. string_bytes t ≡ unmade_text (told failure_values e.refusal)))
-    → IfOk r (λ t. I2cTells class reset a marks cs (string_bytes t))
-i2c_told class reset a marks tr cs (Ok b) (Ok t) is none fresh enough h =
-    inl (is.0, (tr, none, fresh, none_left_out class reset cs a marks tr none fresh enough, h ∙ ap (played (i2c_steps class reset) i2c_trace i2c_chip cs) is.1))
-i2c_told class reset a marks tr cs (Err e) (Ok t) is none fresh enough h = inr (is.0, h ∙ ap unmade_text is.1)
-i2c_told class reset a marks tr cs made (Err e) is none fresh enough h = tt
+-- calls on a bus, seen through what they ask for
+pub bus_played : {M : Type 0} (step : Steps M) (trace : M → Traced) (chip : M → Chip) (class : ℕ → Class) (cs : List Call) (ss : List Seen) (m after : M)
+    → (ss, after) ≡ walked (λ c. performed step (asked c)) trace cs m
+    → transcript_text (trace after) (chip after).failed (map (λ c. call_text (asked c)) cs) ss ≡ played step trace chip class (on_bus (map asked cs)) m
+bus_played step trace chip class cs ss m after e =
+    ap (λ q. transcript_text (trace q.1) (chip q.1).failed (map (λ c. call_text (asked c)) cs) q.0) (e ∙ walked_through (performed step) trace asked cs m)
+    ∙ ap (λ texts. let run = walked (performed step) trace (map asked cs) m in transcript_text (trace run.1) (chip run.1).failed texts run.0) (sym (map-map call_text asked cs))
 
-pub window_told : {Z E : Type 0} (class : ℕ → Class) (reset : ℕ → ℕ) (ws : List ℕ) (cs : List Asked) (made : Result WindowModel (Unmade (MutBor (List ℕ)))) (r : Result (String Z) E)
+pub i2c_told : {Z E : Type 0} (class : ℕ → Class) (reset : ℕ → ℕ) (a : ℕ) (marks : List ℕ) (tr : Traced) (job : Job) (made : Result I2cModel (Unmade Trace)) (r : Result (String Z) E)
+    → I2cMade reset a marks tr made → tr.events ≡ [] → tr.overrun ≡ false → job_room job ≤ tr.room
+    → IfOk r (λ t. MatchResult made (λ b. string_bytes t ≡ played (i2c_steps class reset) i2c_trace i2c_chip class job b) (λ e. string_bytes t ≡ unmade_text (told failure_values e.refusal)))
+    → IfOk r (λ t. I2cTells class reset a marks job (string_bytes t))
+i2c_told class reset a marks tr job (Ok b) (Ok t) is none fresh enough h =
+    inl (is.0, (tr, none, fresh, none_left_out class reset job a marks tr none fresh enough, h ∙ ap (played (i2c_steps class reset) i2c_trace i2c_chip class job) is.1))
+i2c_told class reset a marks tr job (Err e) (Ok t) is none fresh enough h = inr (is.0, h ∙ ap unmade_text is.1)
+i2c_told class reset a marks tr job made (Err e) is none fresh enough h = tt
+
+pub window_told : {Z E : Type 0} (class : ℕ → Class) (reset : ℕ → ℕ) (ws : List ℕ) (job : Job) (made : Result WindowModel (Unmade (MutBor (List ℕ)))) (r : Result (String Z) E)
     → WindowMade reset ws made → length ws ≡ 129
-    → IfOk r (λ t. MatchResult made (λ b. string_bytes t ≡ played (window_steps class reset) window_trace window_chip cs b) (λ e. string_bytes t ≡ unmade_text (told failure_values e.refusal)))
-    → IfOk r (λ t. WindowTells class reset cs (string_bytes t))
-window_told class reset ws cs (Ok b) (Ok t) is fits h = h ∙ ap (played (window_steps class reset) window_trace window_chip cs) is.1
-window_told class reset ws cs (Err e) (Ok t) is fits h = absurd (is.0 fits)
-window_told class reset ws cs made (Err e) is fits h = tt
+    → IfOk r (λ t. MatchResult made (λ b. string_bytes t ≡ played (window_steps class reset) window_trace window_chip class job b) (λ e. string_bytes t ≡ unmade_text (told failure_values e.refusal)))
+    → IfOk r (λ t. WindowTells class reset job (string_bytes t))
+window_told class reset ws job (Ok b) (Ok t) is fits h = h ∙ ap (played (window_steps class reset) window_trace window_chip class job) is.1
+window_told class reset ws job (Err e) (Ok t) is fits h = absurd (is.0 fits)
+window_told class reset ws job made (Err e) is fits h = tt

@@ -1,12 +1,12 @@
 // Performs a bench sheet on a simulated chip, and writes down what each call answered and what passed on the wire.
 #![tactic(auto)]
 
-ghost use Rattle.std.specs.Prelude.{◌≡◌, map, IfOk, MatchResult, string_bytes};
+ghost use Rattle.std.specs.Prelude.{◌≡◌, ℕ, map, sum_by, IfOk, MatchResult, string_bytes};
 ghost use Rattle.chart.specs.Replies.{told, failure_values};
 ghost use Rattle.sheet.specs.Said.{asked};
-ghost use Rattle.sheet.specs.Sheets.{whole};
+ghost use Rattle.sheet.specs.Sheets.{on_bus, on_pile, job_of, whole};
 ghost use Rattle.text.specs.Texts.{unmade_text};
-ghost use Rattle.transcript.specs.Told.{call_room, sheet_room, played, MakeTells, SheetTells};
+ghost use Rattle.transcript.specs.Told.{call_room, port_call_room, job_room, played, MakeTells, SheetTells};
 
 use bus::bus::Bus;
 use bus::unmade::Unmade;
@@ -15,65 +15,120 @@ use chart::class::Chart;
 use chip::memory;
 use i2c::i2c::I2c;
 use i2c_target::trace::Trace;
+use paging::paging::Paging;
 use perform::answer::perform_all;
-use sheet::{Call, ChartName, Make, Sheet};
+use port::port::Port;
+use sheet::{Call, Calls, ChartName, Make, PortCall, Sheet};
 use std::alloc::{AllocError, Global};
 use text::text::{unmade, written};
 use window::window::Window;
 
-// The most events that a call makes on the wire.
-fn room_of(call: &Call) -> usize
-    ensures { result ≡ call_room (asked call.now) }
-{
-    match call {
-        Call::Get { .. } => 8,
-        // a start, an address, a raw address, two bytes a word, and a stop
-        Call::Put { words, .. } => 4 + 2 * words.len().min(16),
-        _ => 0,
+// What a call sends: the most events that it makes on the wire.
+trait Sends {
+    ghost most: { Self → ℕ };
+
+    fn most_events(&self) -> usize
+        ensures { result ≡ most self.now };
+}
+
+impl Sends for Call {
+    ghost most = { λ c. call_room (asked c) };
+
+    fn most_events(&self) -> usize {
+        match self {
+            Call::Get { .. } => 8,
+            // a start, an address, a raw address, two bytes a word, and a stop
+            Call::Put { words, .. } => 4 + 2 * words.len().min(16),
+            _ => 0,
+        }
+    }
+}
+
+impl Sends for PortCall {
+    ghost most = { port_call_room };
+
+    fn most_events(&self) -> usize {
+        match self {
+            // a put that selects the page, and a get
+            PortCall::Read { .. } => 6 + 8,
+            // and a put of the word
+            PortCall::Update { .. } => 6 + 8 + 6,
+            _ => 0,
+        }
     }
 }
 
 // The room that all frames of the calls need; where a number cannot tell it, there is no memory for it.
-fn room(calls: &[Call]) -> Result<usize, AllocError>
-    ensures { IfOk result (λ n. n ≡ sheet_room (map asked calls.now)) }
+fn room_of<C: Sends>(calls: &[C]) -> Result<usize, AllocError>
+    ensures { IfOk result (λ n. n ≡ sum_by C.most calls.now) }
 {
     calls
         .iter()
-        .try_fold(0usize, |all, call| all.checked_add(room_of(call)))
+        .try_fold(0usize, |all, call| all.checked_add(call.most_events()))
         .ok_or(AllocError)
 }
 
-// Performs calls on a bus, where one was made. The clause names the steps at the bus's own chart, as in `Bus`.
+fn room(calls: &Calls) -> Result<usize, AllocError>
+    ensures { IfOk result (λ n. n ≡ job_room (job_of calls.now)) }
+{
+    match calls {
+        Calls::Bus(calls) => room_of(calls.as_slice()),
+        Calls::Pile(calls) => room_of(calls.as_slice()),
+    }
+}
+
+// The clauses name the steps at the bus's own chart, as in `Bus`.
+fn play_on_bus<B: Bus + Drop>(
+    heap: Global,
+    mut bus: B,
+    calls: &[Call],
+) -> Result<String, AllocError>
+    ensures { IfOk result (λ t. string_bytes t ≡ played (B.Bus.steps B.Chart.Chart.classed B.Chart.Chart.resets) B.Bus.trace B.Bus.chip B.Chart.Chart.classed (on_bus (map asked calls.now)) (B.Bus.model bus)) }
+{
+    let outcomes = perform_all(heap, &mut bus, calls)?;
+    written(heap, &bus, calls, outcomes.as_slice())
+}
+
+fn play_on_pile<B: Bus + Drop>(
+    heap: Global,
+    bus: B,
+    calls: &[PortCall],
+) -> Result<String, AllocError>
+    ensures { IfOk result (λ t. string_bytes t ≡ played (B.Bus.steps B.Chart.Chart.classed B.Chart.Chart.resets) B.Bus.trace B.Bus.chip B.Chart.Chart.classed (on_pile calls.now) (B.Bus.model bus)) }
+{
+    let mut pile = Paging::new(bus);
+    let outcomes = perform_all(heap, &mut pile, calls)?;
+    written(heap, pile.bus(), calls, outcomes.as_slice())
+}
+
+// Performs calls over a bus, where one was made.
 fn play<B: Bus + Drop, T: Drop>(
     heap: Global,
     made: Result<B, Unmade<T>>,
-    calls: &[Call],
+    calls: &Calls,
 ) -> Result<String, AllocError>
-    ensures { IfOk result (λ t. MatchResult made (λ bus. string_bytes t ≡ played (B.Bus.steps B.Chart.Chart.classed B.Chart.Chart.resets) B.Bus.trace B.Bus.chip (map asked calls.now) (B.Bus.model bus)) (λ e. string_bytes t ≡ unmade_text (told failure_values e.refusal))) }
+    ensures { IfOk result (λ t. MatchResult made (λ bus. string_bytes t ≡ played (B.Bus.steps B.Chart.Chart.classed B.Chart.Chart.resets) B.Bus.trace B.Bus.chip B.Chart.Chart.classed (job_of calls.now) (B.Bus.model bus)) (λ e. string_bytes t ≡ unmade_text (told failure_values e.refusal))) }
 {
-    match made {
-        Ok(mut bus) => {
-            let outcomes = perform_all(heap, &mut bus, calls)?;
-            written(heap, &bus, calls, outcomes.as_slice())
-        }
-        Err(Unmade { refusal, .. }) => unmade(heap, refusal),
+    match (made, calls) {
+        (Ok(bus), Calls::Bus(calls)) => play_on_bus(heap, bus, calls.as_slice()),
+        (Ok(bus), Calls::Pile(calls)) => play_on_pile(heap, bus, calls.as_slice()),
+        (Err(Unmade { refusal, .. }), _) => unmade(heap, refusal),
     }
 }
 
 // Performs a sheet on a new chip of one chart.
 fn play_on<C: Chart>(heap: Global, sheet: &Sheet) -> Result<String, AllocError>
-    ensures { IfOk result (λ t. MakeTells C.Chart.classed C.Chart.resets sheet.now.make sheet.now.marks.items (map asked sheet.now.calls.items) (string_bytes t)) }
+    ensures { IfOk result (λ t. MakeTells C.Chart.classed C.Chart.resets sheet.now.make sheet.now.marks.items (job_of sheet.now.calls) (string_bytes t)) }
 {
-    let calls = sheet.calls.as_slice();
     match sheet.make {
         Make::I2c(address) => {
-            let trace = Trace::new(heap, room(calls)?)?;
+            let trace = Trace::new(heap, room(&sheet.calls)?)?;
             let made = I2c::<C>::new(address, sheet.marks.as_slice(), trace);
-            play(heap, made, calls)
+            play(heap, made, &sheet.calls)
         }
         Make::Window => {
             let mut words = [0; memory::WORDS];
-            play(heap, Window::<C>::new(&mut words), calls)
+            play(heap, Window::<C>::new(&mut words), &sheet.calls)
         }
     }
 }

@@ -3,8 +3,7 @@ use Rattle.std.proofs.Output.{has_written_append}
 use Rattle.std.proofs.lemmas.Slice.Zip.{either_empty_from_Zip}
 use Rattle.std.specs.Iterator.Adapters.{enumerate_count, enumerate_source, zip_first, zip_second}
 use Rattle.std.specs.Slice.Iter.{iter_rest}
-use Rattle.perform.specs.Performed.{answer_reply}
-use Rattle.sheet.specs.Said.{asked}
+use Rattle.perform.specs.Performed.{answer_reply, seen}
 use Rattle.text.proofs.Saying.{nothing_left}
 use Rattle.text.specs.Texts.{call_lines}
 use Rattle.text.proofs.text.EntriesDisplay.fmt.Goals as goal
@@ -16,7 +15,7 @@ pub loop-before-preserved : goal.loop-before-preserved
 loop-before-preserved g c = λ plain.
     let so_far = c.loop-before.invariant plain in
     let steps = c.in-Some.ensures.steps in
-    let lines = call_lines (enumerate_count c.loop-before.before-iterator + 1) (asked c.in-Some.call.now) (answer_reply c.in-Some.outcome.now.answer) c.between.result.now in (
+    let lines = call_lines (enumerate_count c.loop-before.before-iterator + 1) (g.C.Prints.text c.in-Some.call.now) (answer_reply g.F.Tells.values c.in-Some.outcome.now.answer) c.between.result.now in (
       so_far.0 ++ lines,
       has_written_append _ _ _ _ _ _ so_far.1 (search rules),
       rw (append_assoc so_far.0 lines, c.between.ensures, steps.2, ← so_far.2, steps.0.0, steps.0.1) refl,
@@ -27,6 +26,6 @@ returns-clause-writes g c = λ plain ok.
     let l = c.loop-before in
     let so_far = l.invariant plain in
     let left = enumerate_source l.before-iterator in
-    let over = nothing_left c.args.self.now.events.now (enumerate_count l.before-iterator) l.passed (iter_rest (zip_first left)) (iter_rest (zip_second left))
+    let over = nothing_left g.C.Prints.text (seen g.F.Tells.values) c.args.self.now.events.now (enumerate_count l.before-iterator) l.passed (iter_rest (zip_first left)) (iter_rest (zip_second left))
     (either_empty_from_Zip left (enumerate_source c.next.new.self) _ refl c.in-None.ensures.steps.0) in
     rw (← so_far.2, over, append-nil so_far.0) so_far.1

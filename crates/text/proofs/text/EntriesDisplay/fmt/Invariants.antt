@@ -3,7 +3,6 @@ use Rattle.std.specs.Fmt.{HasWritten, IsPlainFormatter}
 use Rattle.std.specs.Iterator.Adapters.{enumerate_count, enumerate_source, zip_first, zip_second}
 use Rattle.std.specs.Slice.Iter.{iter_rest}
 use Rattle.perform.specs.Performed.{seen}
-use Rattle.sheet.specs.Said.{asked}
 use Rattle.text.specs.Texts.{calls_lines}
 use Rattle.text.proofs.text.EntriesDisplay.fmt.Given as goal
 
@@ -14,5 +13,5 @@ invariant-loop-before g l =
     let left = enumerate_source l.before-iterator in
     IsPlainFormatter l.initial.f
     → (done : List ℕ) × HasWritten g.W.Write.write_str_gives l.initial.f done l.f
-    × (done ++ calls_lines es (enumerate_count l.before-iterator) l.passed (map asked (iter_rest (zip_first left))) (map seen (iter_rest (zip_second left)))
-    ≡ calls_lines es 0 0 (map asked l.self.calls.now) (map seen l.self.outcomes.now))
+    × (done ++ calls_lines es (enumerate_count l.before-iterator) l.passed (map g.C.Prints.text (iter_rest (zip_first left))) (map (seen g.F.Tells.values) (iter_rest (zip_second left)))
+    ≡ calls_lines es 0 0 (map g.C.Prints.text l.self.calls.now) (map (seen g.F.Tells.values) l.self.outcomes.now))
