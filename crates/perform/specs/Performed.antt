@@ -6,9 +6,9 @@ use Rattle.chart.specs.declared.refusal.Refusal.{Refusal}
 use Rattle.i2c_target.specs.Traces.{Traced}
 use Rattle.bus.specs.Meaning.{Steps}
 use Rattle.port.specs.Meaning.{PortSteps}
-use Rattle.sheet.specs.Said.{Asked, get, put, measure, down, up}
-use Rattle.sheet.specs.declared.PortCall.{PortCall}
-use Rattle.sheet.specs.declared.PortCall.TheVariants.{Read, Update, Measure, Down, Up}
+use Rattle.calls.specs.Asked.{Asked, get, put, measure, down, up}
+use Rattle.calls.specs.declared.PortCall.{PortCall}
+use Rattle.calls.specs.declared.PortCall.TheVariants.{Read, Update, Measure, Down, Up}
 use Rattle.perform.specs.declared.answer.Outcome.{Outcome}
 
 -- what an acceptance answers: a word, or nothing more than yes

@@ -1,4 +1,4 @@
 #![tactic(auto)]
 
 pub mod answer;
-pub mod calls;
+pub mod kinds;

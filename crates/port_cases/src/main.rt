@@ -21,16 +21,16 @@ use window::window::Window;
 struct Case {
     call: &'static str,
     answer: Result<(), Refusal<Fault>>,
-    number: u8,
+    expected: u8,
 }
 
 impl Case {
     fn holds(&self) -> bool
-        ensures { result ≡ ((port_reply no_value self.now.answer).number == self.now.number) }
+        ensures { result ≡ ((port_reply no_value self.now.answer).number == self.now.expected) }
     {
         match &self.answer {
-            Ok(()) => self.number == 0,
-            Err(refusal) => refusal.number() == self.number,
+            Ok(()) => self.expected == 0,
+            Err(refusal) => refusal.number() == self.expected,
         }
     }
 }
@@ -50,30 +50,51 @@ fn read<P: Port>(port: &mut P, register: u16) -> Result<(), Refusal<Fault>> {
     Ok(())
 }
 
-// On the head chart 28 is absent, 20 is live, and 19 is a setting.
+// On the head chart 19 is a setting, 20 to 23 are live, and 24 to 31 are absent.
 #[rattlefmt::skip]
-fn edges<P: Port<Chart = Head>>(port: &mut P) -> [Case; 13] {
+fn awake<P: Port<Chart = Head>>(port: &mut P) -> [Case; 16] {
     let patch = Patch { mask: 0xFFFF, bits: 7 };
     [
-        Case { call: "run of 16 from 40", answer: port.run(40, &[7; 16]), number: 0 },
-        Case { call: "run of 17 from 40", answer: port.run(40, &[7; 17]), number: 1 },
-        Case { call: "read 0", answer: read(port, 0), number: 2 },
-        Case { call: "read 28", answer: read(port, 28), number: 2 },
-        Case { call: "read 128", answer: read(port, 128), number: 2 },
-        Case { call: "update 0", answer: port.update(0, patch), number: 2 },
-        Case { call: "update 28", answer: port.update(28, patch), number: 2 },
-        Case { call: "update 128", answer: port.update(128, patch), number: 2 },
-        Case { call: "measure 0", answer: port.measure(0, 7), number: 2 },
-        Case { call: "measure 28", answer: port.measure(28, 7), number: 2 },
-        Case { call: "measure 128", answer: port.measure(128, 7), number: 2 },
-        Case { call: "update 20", answer: port.update(20, patch), number: 3 },
-        Case { call: "measure 19", answer: port.measure(19, 7), number: 4 },
+        Case { call: "run of 16 from 40", answer: port.run(40, &[7; 16]), expected: 0 },
+        Case { call: "run of 17 from 40", answer: port.run(40, &[7; 17]), expected: 1 },
+        Case { call: "run of 0 from 40", answer: port.run(40, &[]), expected: 1 },
+        Case { call: "run of 10 from 19", answer: port.run(19, &[7; 10]), expected: 2 },
+        Case { call: "run of 5 from 19", answer: port.run(19, &[7; 5]), expected: 3 },
+        Case { call: "read 0", answer: read(port, 0), expected: 2 },
+        Case { call: "read 28", answer: read(port, 28), expected: 2 },
+        Case { call: "read 128", answer: read(port, 128), expected: 2 },
+        Case { call: "update 0", answer: port.update(0, patch), expected: 2 },
+        Case { call: "update 28", answer: port.update(28, patch), expected: 2 },
+        Case { call: "update 128", answer: port.update(128, patch), expected: 2 },
+        Case { call: "measure 0", answer: port.measure(0, 7), expected: 2 },
+        Case { call: "measure 28", answer: port.measure(28, 7), expected: 2 },
+        Case { call: "measure 128", answer: port.measure(128, 7), expected: 2 },
+        Case { call: "update 20", answer: port.update(20, patch), expected: 3 },
+        Case { call: "measure 19", answer: port.measure(19, 7), expected: 4 },
+    ]
+}
+
+// Asleep is told last.
+#[rattlefmt::skip]
+fn asleep<P: Port<Chart = Head>>(port: &mut P) -> [Case; 9] {
+    let patch = Patch { mask: 0xFFFF, bits: 7 };
+    port.down();
+    [
+        Case { call: "run of 17 from 40", answer: port.run(40, &[7; 17]), expected: 1 },
+        Case { call: "run of 10 from 19", answer: port.run(19, &[7; 10]), expected: 2 },
+        Case { call: "run of 5 from 19", answer: port.run(19, &[7; 5]), expected: 3 },
+        Case { call: "run of 2 from 40", answer: port.run(40, &[7; 2]), expected: 5 },
+        Case { call: "read 28", answer: read(port, 28), expected: 2 },
+        Case { call: "read 19", answer: read(port, 19), expected: 5 },
+        Case { call: "update 20", answer: port.update(20, patch), expected: 3 },
+        Case { call: "update 19", answer: port.update(19, patch), expected: 5 },
+        Case { call: "measure 19", answer: port.measure(19, 7), expected: 4 },
     ]
 }
 
 // Prints cases, and answers whether all hold.
-fn show(rt: &HostRuntime, over: &str, cases: &[Case]) -> anyhow::Result<bool> {
-    println!(rt; "paging over {over}")?;
+fn show(rt: &HostRuntime, title: &str, cases: &[Case]) -> anyhow::Result<bool> {
+    println!(rt; "{title}")?;
     for case in cases {
         let mark = if case.holds() { "" } else { " WRONG" };
         println!(rt; "  {case}{mark}")?;
@@ -89,9 +110,17 @@ fn main(rt: HostRuntime) -> anyhow::Result<ExitCode> {
     let Ok(i2c) = I2c::<Head>::new(0x2A, &[], Trace::new(rt.alloc(), 0)?) else {
         return Ok(ExitCode::FAILURE);
     };
-    let over_window = show(&rt, "a window", &edges(&mut Paging::new(window)))?;
-    let over_i2c = show(&rt, "I2C", &edges(&mut Paging::new(i2c)))?;
-    if over_window && over_i2c {
+    let mut over_window = Paging::new(window);
+    let mut over_i2c = Paging::new(i2c);
+    let mut hold = show(&rt, "paging over a window", &awake(&mut over_window))?;
+    hold &= show(
+        &rt,
+        "paging over a window, asleep",
+        &asleep(&mut over_window),
+    )?;
+    hold &= show(&rt, "paging over I2C", &awake(&mut over_i2c))?;
+    hold &= show(&rt, "paging over I2C, asleep", &asleep(&mut over_i2c))?;
+    if hold {
         println!(rt; "all cases hold")?;
         Ok(ExitCode::SUCCESS)
     } else {

@@ -3,4 +3,3 @@ mod Digiting
 mod Folding
 mod Listing
 mod Naming
-pub mod Hexing

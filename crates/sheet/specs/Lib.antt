@@ -2,4 +2,3 @@ pub mod Cut
 pub mod Numeral
 pub mod Said
 pub mod Sheets
-pub mod Texts

@@ -1,35 +1,19 @@
 -- What a line says. Assumes nothing.
-use Rattle.std.specs.Prelude.{◌≡◌, ℕ, Bool, cond, ◌||◌, List, [], ◌∷◌, length, Ok, Err, vec_items, codes, Result, ◌==◌, nat_lt, slice_index}
+use Rattle.std.specs.Prelude.{◌≡◌, ℕ, Bool, cond, ◌||◌, List, [], ◌∷◌, length, Ok, Err, codes, Result, ◌==◌, nat_lt, slice_index}
 use Rattle.std.specs.Option.{ok_or}
 use Rattle.std.specs.Str.{bytes_eq}
 use Rattle.sheet.specs.declared.Make.{Make}
 use Rattle.sheet.specs.declared.ChartName.{ChartName}
 use Rattle.sheet.specs.declared.Make.TheVariants.{I2c, Window}
 use Rattle.sheet.specs.declared.ChartName.TheVariants.{Head, Valve}
-use Rattle.sheet.specs.declared.Call.{Call}
-use Rattle.sheet.specs.declared.Call.TheVariants.{Get, Put, Measure, Down, Up}
-use Rattle.sheet.specs.declared.PortCall.{PortCall}
-use Rattle.sheet.specs.declared.PortCall.TheVariants as port
+use Rattle.calls.specs.Asked.{Asked, get, put, measure, down, up}
+use Rattle.calls.specs.declared.PortCall.{PortCall}
+use Rattle.calls.specs.declared.PortCall.TheVariants as port
 use Rattle.sheet.specs.declared.Mistake.{Mistake}
 use Rattle.sheet.specs.declared.Mistake.TheVariants.{UnknownStatement, WordCount, NotANumber, NotAMark, UnknownBus, UnknownChart, UnknownPile, UnknownLayer, NoPile, UnderPile}
 use Rattle.sheet.specs.declared.LineError.{LineError}
 use Rattle.sheet.specs.declared.LineError.TheVariants.{Memory, Wrong}
 use Rattle.sheet.specs.Numeral.{numeral}
-
--- a call on a bus as a line asks for it
-pub data Asked : Type 0 where
-  get : ℕ → Asked
-  put : ℕ → List ℕ → Asked
-  measure : ℕ → ℕ → Asked
-  down : Asked
-  up : Asked
-
-abbrev pub asked : Call → Asked
-asked (Get raw) = get raw
-asked (Put raw ws) = put raw (vec_items ws)
-asked (Measure register word) = measure register word
-asked Down = down
-asked Up = up
 
 abbrev pub map_ok : {X Y : Type 0} → (X → Y) → Result X Mistake → Result Y Mistake
 map_ok f (Ok x) = Ok (f x)
@@ -109,9 +93,6 @@ abbrev pub pile_of : List (List ℕ) → Result (Unit {0}) Mistake
 pile_of [] = Err WordCount
 pile_of (w ∷ ws) = cond (bytes_eq w (codes "paging")) (no_layer ws) (Err UnknownPile)
 
-abbrev pub get_of : List (List ℕ) → Result Asked Mistake
-get_of ws = map_ok get (one_number ws)
-
 abbrev pub put_with : Result ℕ Mistake → Result (List ℕ) Mistake → Result Asked Mistake
 put_with (Err m) r = Err m
 put_with (Ok raw) (Err m) = Err m
@@ -120,15 +101,6 @@ put_with (Ok raw) (Ok xs) = Ok (put raw xs)
 abbrev pub put_of : List (List ℕ) → Result Asked Mistake
 put_of [] = Err WordCount
 put_of (w ∷ ws) = put_with (number_of w) (numbers_of ws)
-
-abbrev pub measure_of : List (List ℕ) → Result Asked Mistake
-measure_of ws = map_ok (λ p. measure p.0 p.1) (two_numbers ws)
-
-abbrev pub down_of : List (List ℕ) → Result Asked Mistake
-down_of ws = map_ok (λ _. down) (nothing ws)
-
-abbrev pub up_of : List (List ℕ) → Result Asked Mistake
-up_of ws = map_ok (λ _. up) (nothing ws)
 
 -- a name of the calls on a pile, and of those on a bus alone
 abbrev pub only_on_pile : List ℕ → Bool
@@ -140,11 +112,11 @@ only_on_bus name = bytes_eq name (codes "get") || bytes_eq name (codes "put")
 -- a call on a bus by its name and the words after it
 abbrev pub call_named : List ℕ → List (List ℕ) → Result Asked Mistake
 call_named name ws =
-    cond (bytes_eq name (codes "get")) (get_of ws)
+    cond (bytes_eq name (codes "get")) (map_ok get (one_number ws))
     (cond (bytes_eq name (codes "put")) (put_of ws)
-    (cond (bytes_eq name (codes "measure")) (measure_of ws)
-    (cond (bytes_eq name (codes "down")) (down_of ws)
-    (cond (bytes_eq name (codes "up")) (up_of ws)
+    (cond (bytes_eq name (codes "measure")) (map_ok (λ p. measure p.0 p.1) (two_numbers ws))
+    (cond (bytes_eq name (codes "down")) (map_ok (λ _. down) (nothing ws))
+    (cond (bytes_eq name (codes "up")) (map_ok (λ _. up) (nothing ws))
     (Err (cond (only_on_pile name) NoPile UnknownStatement))))))
 
 -- a call on a pile

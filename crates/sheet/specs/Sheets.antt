@@ -10,14 +10,15 @@ use Rattle.sheet.specs.declared.Make.{Make}
 use Rattle.sheet.specs.declared.Make.TheVariants.{I2c, Window}
 use Rattle.sheet.specs.declared.Calls.{Calls}
 use Rattle.sheet.specs.declared.Calls.TheVariants.{Bus, Pile}
-use Rattle.sheet.specs.declared.PortCall.{PortCall}
+use Rattle.calls.specs.Asked.{Asked, asked}
+use Rattle.calls.specs.declared.PortCall.{PortCall}
 use Rattle.sheet.specs.declared.Mistake.{Mistake}
 use Rattle.sheet.specs.declared.Mistake.TheVariants.{SecondBus, SecondChart, SecondPile, LateOpening, NoBus, MarksOnWindow}
 use Rattle.sheet.specs.declared.Sheet.{Sheet}
 use Rattle.sheet.specs.declared.LineError.{LineError}
 use Rattle.sheet.specs.declared.LineError.TheVariants as line_error
 use Rattle.sheet.specs.Cut.{before, words_of, lines_of}
-use Rattle.sheet.specs.Said.{Asked, asked, bus_of, chart_of, marks_of, pile_of, call_named, port_call_named}
+use Rattle.sheet.specs.Said.{bus_of, chart_of, marks_of, pile_of, call_named, port_call_named}
 
 -- what is to be performed: calls on a bus alone, or on a pile over it
 pub data Job : Type 0 where
@@ -59,10 +60,10 @@ abbrev pub is_pile : Job → Bool
 is_pile (on_bus cs) = false
 is_pile (on_pile cs) = true
 
--- what the words of a line say, put in its place, or the first mistake in them
-abbrev pub placed : {X : Type 0} → Result X Mistake → (X → Result Sofar Mistake) → Result Sofar Mistake
-placed (Ok x) at = at x
-placed (Err m) at = Err m
+-- the first mistake in the words of a line, or else what becomes of what they say
+abbrev pub and_then : {X : Type 0} → Result X Mistake → (X → Result Sofar Mistake) → Result Sofar Mistake
+and_then (Ok x) next = next x
+and_then (Err m) next = Err m
 
 -- an opening line comes before the first call
 abbrev pub early : Sofar → Result Sofar Mistake → Result Sofar Mistake
@@ -86,16 +87,16 @@ with_job d job = cond (is_some d.make) (Ok (record d { job = job })) (Err NoBus)
 
 -- which calls a line may hold is settled by what they are performed on
 abbrev pub with_call : Sofar → Job → List ℕ → List (List ℕ) → Result Sofar Mistake
-with_call d (on_bus cs) name ws = placed (call_named name ws) (λ c. with_job d (on_bus (cs ++ c ∷ [])))
-with_call d (on_pile cs) name ws = placed (port_call_named name ws) (λ c. with_job d (on_pile (cs ++ c ∷ [])))
+with_call d (on_bus cs) name ws = and_then (call_named name ws) (λ c. with_job d (on_bus (cs ++ c ∷ [])))
+with_call d (on_pile cs) name ws = and_then (port_call_named name ws) (λ c. with_job d (on_pile (cs ++ c ∷ [])))
 
 -- a statement by its name and the words after it
 abbrev pub with_statement : Sofar → List ℕ → List (List ℕ) → Result Sofar Mistake
 with_statement d name ws =
-    cond (bytes_eq name (codes "bus")) (placed (bus_of ws) (with_bus d))
-    (cond (bytes_eq name (codes "chart")) (placed (chart_of ws) (with_chart d))
-    (cond (bytes_eq name (codes "marks")) (placed (marks_of ws) (with_marks d))
-    (cond (bytes_eq name (codes "pile")) (placed (pile_of ws) (λ _. with_pile d))
+    cond (bytes_eq name (codes "bus")) (and_then (bus_of ws) (with_bus d))
+    (cond (bytes_eq name (codes "chart")) (and_then (chart_of ws) (with_chart d))
+    (cond (bytes_eq name (codes "marks")) (and_then (marks_of ws) (with_marks d))
+    (cond (bytes_eq name (codes "pile")) (and_then (pile_of ws) (λ _. with_pile d))
     (with_call d d.job name ws))))
 
 -- a line that has no words says nothing

@@ -103,24 +103,20 @@ impl Draft {
         Ok(())
     }
 
-    // Which calls a line may hold is settled by what they are performed on.
+    // Which calls a line may hold is settled by what they are performed on. That the bus is missing is told after what is wrong with the words.
     fn call(&mut self, name: &[u8], words: Words) -> Result<(), LineError>
         ensures { Gives (λ _. self.new) result (with_call self.old self.old.job name.now words.entry) }
     {
-        let placed = self.make.is_some();
+        let bus = self.make.ok_or(Mistake::NoBus);
         match &mut self.calls {
             Calls::Bus(calls) => {
                 let call = line::read_call(self.heap, name, words)?;
-                if !placed {
-                    return Err(Mistake::NoBus.into());
-                }
+                let _ = bus?;
                 calls.push(call)?;
             }
             Calls::Pile(calls) => {
                 let call = line::read_port_call(name, words)?;
-                if !placed {
-                    return Err(Mistake::NoBus.into());
-                }
+                let _ = bus?;
                 calls.push(call)?;
             }
         }

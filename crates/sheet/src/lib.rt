@@ -1,12 +1,12 @@
 // Reads a bench sheet into typed values, or names its first mistake by its line. Nothing is performed here.
 //
-// A sheet has one statement to a line. `#` begins a comment, which runs to the end of its line. Words stand apart by spaces,
-// tabs and carriage returns. A number is decimal, or hexadecimal after `0x`, and is at most 65535; a mark is at most 255.
+// Each line holds one statement, or none. What follows a `#` is passed over. Spaces, tabs and carriage returns part the words.
+// Numbers up to 65535 are written in decimal digits, or with the prefix `0x` in hexadecimal ones; marks go up to 255.
 //
 //     bus i2c ADDRESS | bus window          once, before the first call
 //     chart head | chart valve              at most once; `head` where it is left out
-//     marks N ..                            on i2c only; further lines add to it
-//     pile paging                           at most once; without it the calls go to the bus itself
+//     marks N ..                            on i2c only; several such lines make one list
+//     pile paging                           at most once; where it is left out, calls are made on the bus
 //
 //     get RAW                               on a bus
 //     put RAW WORD ..
@@ -17,22 +17,19 @@
 //     up
 //
 // The first four open a sheet, in any order, and come before the first call. Of the mistakes of one line the one that is
-// told is the first of: an unknown statement or one for the other kind of calls, the number of its words, its words from left to
-// right, and its place in the sheet. The make of a bus comes before the number of words, which it decides.
+// told is the first of: an unknown statement or a call of the other kind, the number of its words, its words from left to
+// right, and its place in the sheet. The make of a bus, which decides the number, and the words of a pile come before it.
 #![tactic(auto)]
 
-ghost use Rattle.std.specs.Prelude.{◌≡◌, ℕ, List, Some};
-ghost use Rattle.std.proofs.Common.{refl};
-ghost use Rattle.sheet.specs.Said.{asked};
+ghost use Rattle.std.specs.Prelude.{◌≡◌};
 ghost use Rattle.sheet.specs.Sheets.{job_of, no_calls, at_line, sheet_of, Reads};
-ghost use Rattle.sheet.specs.Texts.{word_text, call_text, port_call_text};
 ghost use Rattle.sheet.specs.declared.LineError.TheVariants.{Memory, Wrong};
 
+pub use calls::{Call, PortCall};
 use cut::Lines;
 pub use digits::number;
 use draft::Draft;
 use std::alloc::{AllocError, AllocFailed, Global};
-use std::fmt;
 use thiserror::Error;
 
 mod cut;
@@ -51,112 +48,6 @@ pub enum Make {
 pub enum ChartName {
     Head,
     Valve,
-}
-
-// What always prints one text, which clauses can name.
-pub trait Prints: fmt::Display {
-    ghost text: { Self → List ℕ };
-
-    ghost prints: { (x : Self) → Self.output x ≡ Some (text x) };
-}
-
-// A call on a bus. Clauses see it through `asked`, since an enum cannot have a model yet.
-#[derive(Debug, PartialEq, Eq, Drop)]
-pub enum Call {
-    Get { raw: u16 },
-    Put { raw: u16, words: Vec<u16> },
-    Measure { register: u16, word: u16 },
-    Down,
-    Up,
-}
-
-// A call on the port on top of a pile.
-#[derive(Clone, Copy, Debug, PartialEq, Eq)]
-pub enum PortCall {
-    Read { register: u16 },
-    Update { register: u16, mask: u16, bits: u16 },
-    Measure { register: u16, word: u16 },
-    Down,
-    Up,
-}
-
-// A register's word, which prints as `0x` and four digits.
-#[derive(Clone, Copy, Debug, PartialEq, Eq)]
-pub struct Word(pub u16);
-
-impl fmt::Display for Word {
-    ghost output = { λ w. Some (word_text w.0) };
-
-    #[tactic(auto, using(crate::proofs::Hexing::word_written))]
-    fn fmt<W: fmt::Write>(&self, f: &mut fmt::Formatter<W>) -> fmt::Result {
-        let word = self.0;
-        write!(f, "0x{word:04X}")
-    }
-}
-
-// A call as a sheet writes it.
-impl fmt::Display for Call {
-    ghost output = { λ c. Some (call_text (asked c)) };
-
-    #[tactic(auto, using(std::proofs::lemmas::Grind::common_steps))]
-    fn fmt<W: fmt::Write>(&self, f: &mut fmt::Formatter<W>) -> fmt::Result {
-        match self {
-            Call::Get { raw } => write!(f, "get {raw}"),
-            Call::Put { raw, words } => {
-                write!(f, "put {raw}")?;
-                for word in words {
-                    let word = Word(*word);
-                    write!(f, " {word}")?;
-                }
-                Ok(())
-            }
-            Call::Measure { register, word } => {
-                let word = Word(*word);
-                write!(f, "measure {register} {word}")
-            }
-            Call::Down => write!(f, "down"),
-            Call::Up => write!(f, "up"),
-        }
-    }
-}
-
-impl Prints for Call {
-    ghost text = { λ c. call_text (asked c) };
-
-    ghost prints = { λ c. refl };
-}
-
-// As a sheet writes it.
-impl fmt::Display for PortCall {
-    ghost output = { λ c. Some (port_call_text c) };
-
-    #[tactic(auto, using(std::proofs::lemmas::Grind::common_steps))]
-    fn fmt<W: fmt::Write>(&self, f: &mut fmt::Formatter<W>) -> fmt::Result {
-        match *self {
-            PortCall::Read { register } => write!(f, "read {register}"),
-            PortCall::Update {
-                register,
-                mask,
-                bits,
-            } => {
-                let mask = Word(mask);
-                let bits = Word(bits);
-                write!(f, "update {register} {mask} {bits}")
-            }
-            PortCall::Measure { register, word } => {
-                let word = Word(word);
-                write!(f, "measure {register} {word}")
-            }
-            PortCall::Down => write!(f, "down"),
-            PortCall::Up => write!(f, "up"),
-        }
-    }
-}
-
-impl Prints for PortCall {
-    ghost text = { port_call_text };
-
-    ghost prints = { λ c. refl };
 }
 
 // The calls of a sheet, by what they are performed on: a bus alone, or a pile.

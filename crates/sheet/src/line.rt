@@ -1,6 +1,7 @@
 // Reads the words of one line.
-ghost use Rattle.std.specs.Prelude.{◌≡◌, ℕ, List, Result, vec_items};
-ghost use Rattle.sheet.specs.Said.{Gives, exactly, all_of, asked, map_ok, call_named, port_call_named, bus_of, chart_of, marks_of, pile_of, get_of, put_of, measure_of, number_of, mark_of};
+ghost use Rattle.std.specs.Prelude.{◌≡◌, ℕ, cond, List, Result, vec_items};
+ghost use Rattle.calls.specs.Asked.{asked};
+ghost use Rattle.sheet.specs.Said.{Gives, exactly, all_of, only_on_pile, call_named, port_call_named, bus_of, chart_of, marks_of, pile_of, put_of, number_of, mark_of};
 
 use crate::cut::Words;
 use crate::digits::number;
@@ -102,13 +103,6 @@ pub fn pile(mut words: Words) -> Result<(), Mistake>
     }
 }
 
-fn get(words: Words) -> Result<Call, Mistake>
-    ensures { map_ok asked result ≡ get_of words.entry }
-{
-    let [raw] = numbers::<1>(words)?;
-    Ok(Call::Get { raw })
-}
-
 fn put(heap: Global, mut words: Words) -> Result<Call, LineError>
     ensures { Gives asked result (put_of words.entry) }
 {
@@ -117,11 +111,15 @@ fn put(heap: Global, mut words: Words) -> Result<Call, LineError>
     Ok(Call::Put { raw, words })
 }
 
-fn measure(words: Words) -> Result<Call, Mistake>
-    ensures { map_ok asked result ≡ measure_of words.entry }
+// What is wrong with a name that begins no call on a bus.
+#[tactic(auto, using(crate::proofs::Naming::names))]
+fn stray(name: &[u8]) -> Mistake
+    ensures { result ≡ cond (only_on_pile name.now) Mistake.NoPile Mistake.UnknownStatement }
 {
-    let [register, word] = numbers::<2>(words)?;
-    Ok(Call::Measure { register, word })
+    match name {
+        b"read" | b"update" => Mistake::NoPile,
+        _ => Mistake::UnknownStatement,
+    }
 }
 
 // The call on a bus that a name begins.
@@ -130,9 +128,15 @@ pub fn read_call(heap: Global, name: &[u8], words: Words) -> Result<Call, LineEr
     ensures { Gives asked result (call_named name.now words.entry) }
 {
     match name {
-        b"get" => Ok(get(words)?),
+        b"get" => {
+            let [raw] = numbers::<1>(words)?;
+            Ok(Call::Get { raw })
+        }
         b"put" => put(heap, words),
-        b"measure" => Ok(measure(words)?),
+        b"measure" => {
+            let [register, word] = numbers::<2>(words)?;
+            Ok(Call::Measure { register, word })
+        }
         b"down" => {
             let [] = numbers::<0>(words)?;
             Ok(Call::Down)
@@ -141,8 +145,7 @@ pub fn read_call(heap: Global, name: &[u8], words: Words) -> Result<Call, LineEr
             let [] = numbers::<0>(words)?;
             Ok(Call::Up)
         }
-        b"read" | b"update" => Err(Mistake::NoPile.into()),
-        _ => Err(Mistake::UnknownStatement.into()),
+        _ => Err(stray(name).into()),
     }
 }
 

@@ -202,7 +202,7 @@ fn tells_wrong_piles(rt: HostRuntime) {
     is_wrong(
         &rt,
         heap,
-        b"bus window\npile paging\nsync",
+        b"bus window\npile paging\nrun 40 7",
         3,
         Mistake::UnknownStatement,
     );
@@ -229,4 +229,32 @@ fn tells_wrong_piles(rt: HostRuntime) {
     );
     is_wrong(&rt, heap, b"pile paging\nread 5", 2, Mistake::NoBus);
     is_wrong(&rt, heap, b"pile paging\n", 2, Mistake::NoBus);
+}
+
+fn prints(rt: &impl Abort, heap: Global, mistake: Mistake, expected: &str) -> Result<(), Fail> {
+    let fault = Fault::Wrong { line: 12, mistake };
+    assert_eq!(rt; format!(in heap; "{fault}")?.as_str(), expected);
+    Ok(())
+}
+
+#[test]
+#[rattlefmt::skip]
+fn says_what_is_wrong(rt: HostRuntime) -> Result<(), Fail> {
+    let heap = rt.alloc();
+    prints(&rt, heap, Mistake::UnknownStatement, "line 12: unknown statement")?;
+    prints(&rt, heap, Mistake::WordCount, "line 12: wrong number of words")?;
+    prints(&rt, heap, Mistake::NotANumber, "line 12: not a number from 0 to 65535")?;
+    prints(&rt, heap, Mistake::NotAMark, "line 12: a mark above 255")?;
+    prints(&rt, heap, Mistake::UnknownBus, "line 12: unknown make of bus")?;
+    prints(&rt, heap, Mistake::UnknownChart, "line 12: unknown chart")?;
+    prints(&rt, heap, Mistake::UnknownPile, "line 12: a pile that does not begin with paging")?;
+    prints(&rt, heap, Mistake::UnknownLayer, "line 12: unknown layer")?;
+    prints(&rt, heap, Mistake::SecondBus, "line 12: a second bus line")?;
+    prints(&rt, heap, Mistake::SecondChart, "line 12: a second chart line")?;
+    prints(&rt, heap, Mistake::SecondPile, "line 12: a second pile line")?;
+    prints(&rt, heap, Mistake::LateOpening, "line 12: an opening line after the first call")?;
+    prints(&rt, heap, Mistake::NoBus, "line 12: no bus line before this")?;
+    prints(&rt, heap, Mistake::NoPile, "line 12: no pile line before this")?;
+    prints(&rt, heap, Mistake::UnderPile, "line 12: a call on the bus under a pile")?;
+    prints(&rt, heap, Mistake::MarksOnWindow, "line 12: marks together with a window")
 }

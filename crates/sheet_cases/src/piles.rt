@@ -125,7 +125,7 @@ calls 8, failed transfers 0
     shows(&rt, rt.alloc(), text, expected)
 }
 
-// Absent wins over live and asleep, and live over asleep.
+// An absent register, a live one in an update and a setting in a measure are all told before the supply is.
 #[test]
 fn the_order_of_refusals(rt: HostRuntime) -> Result<(), Fail> {
     let text = b"bus window

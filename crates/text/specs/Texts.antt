@@ -3,7 +3,7 @@ use Rattle.std.specs.Prelude.{ℕ, ◌+◌, ◌-◌, min, Bool, true, false, con
 use Rattle.chart.specs.Names.{refusal_text}
 use Rattle.chart.specs.Replies.{Reply}
 use Rattle.perform.specs.Performed.{Seen}
-use Rattle.sheet.specs.Texts.{byte_text, word_text}
+use Rattle.calls.specs.Texts.{byte_text, word_text}
 use Rattle.i2c_target.specs.Traces.{Traced}
 use Rattle.i2c_target.specs.declared.event.Event.{Event}
 use Rattle.i2c_target.specs.declared.event.Event.TheVariants.{Start, Byte, Stop}

@@ -5,10 +5,10 @@ ghost use Rattle.perform.specs.Performed.{answer_reply, seen};
 ghost use Rattle.text.specs.Texts.{reply_text, event_text, goes_on, events_text, events_between, call_lines, calls_lines, full_text, transcript_text, unmade_text};
 
 use bus::bus::Bus;
+use calls::{Prints, Word};
 use chart::refusal::{Failure, Refusal, Tells};
 use i2c_target::event::Event;
 use perform::answer::{Answer, Outcome};
-use sheet::{Prints, Word};
 use std::alloc::{AllocError, Global};
 use std::fmt;
 

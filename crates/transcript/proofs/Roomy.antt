@@ -14,10 +14,10 @@ use Rattle.bus.proofs.Settled.{either_way}
 use Rattle.pages.specs.Machine.{PagingModel, fetched, update_sent, paging_steps}
 use Rattle.chart.specs.Patch.{patch_of}
 use Rattle.port.specs.Checks.{read_check, update_check}
-use Rattle.sheet.specs.Said.{Asked, get, put, measure, down, up}
+use Rattle.calls.specs.Asked.{Asked, get, put, measure, down, up}
 use Rattle.sheet.specs.Sheets.{Job, on_bus, on_pile}
-use Rattle.sheet.specs.declared.PortCall.{PortCall}
-use Rattle.sheet.specs.declared.PortCall.TheVariants.{Read, Update, Measure, Down, Up}
+use Rattle.calls.specs.declared.PortCall.{PortCall}
+use Rattle.calls.specs.declared.PortCall.TheVariants.{Read, Update, Measure, Down, Up}
 use Rattle.perform.specs.Performed.{performed, port_performed, walked}
 use Rattle.transcript.proofs.PagingRoomy.{room_less, fetched_roomy, update_roomy}
 use Rattle.transcript.specs.Told.{call_room, port_call_room, job_room, job_walked}

@@ -17,9 +17,9 @@ use Rattle.bus.specs.Chips.{Chip}
 use Rattle.bus.specs.Meaning.{Steps}
 use Rattle.perform.specs.Performed.{Seen, performed, walked}
 use Rattle.perform.proofs.Walking.{walked_through}
-use Rattle.sheet.specs.Said.{asked}
-use Rattle.sheet.specs.Texts.{call_text}
-use Rattle.sheet.specs.declared.Call.{Call}
+use Rattle.calls.specs.Asked.{asked}
+use Rattle.calls.specs.Texts.{call_text}
+use Rattle.calls.specs.declared.Call.{Call}
 use Rattle.transcript.specs.Told.{job_room, played, I2cTells, WindowTells}
 use Rattle.window.specs.Made.{WindowMade}
 

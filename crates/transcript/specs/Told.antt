@@ -10,16 +10,16 @@ use Rattle.bus.specs.I2cs.{i2c_steps, i2c_chip, i2c_trace, new_i2c}
 use Rattle.bus.specs.Meaning.{Steps}
 use Rattle.bus.specs.Windows.{window_of, window_steps, window_chip, window_trace}
 use Rattle.i2c.specs.Made.{Addressable}
-use Rattle.pages.specs.Machine.{PagingModel, paged, paging_steps}
-use Rattle.sheet.specs.Said.{Asked, get, put, measure, down, up}
+use Rattle.pages.specs.Machine.{paged, paging_steps}
+use Rattle.calls.specs.Asked.{Asked, get, put, measure, down, up}
 use Rattle.sheet.specs.Sheets.{Job, on_bus, on_pile, Whole}
-use Rattle.sheet.specs.Texts.{call_text, port_call_text}
+use Rattle.calls.specs.Texts.{call_text, port_call_text}
 use Rattle.sheet.specs.declared.ChartName.{ChartName}
 use Rattle.sheet.specs.declared.ChartName.TheVariants.{Head, Valve}
 use Rattle.sheet.specs.declared.Make.{Make}
 use Rattle.sheet.specs.declared.Make.TheVariants.{I2c, Window}
-use Rattle.sheet.specs.declared.PortCall.{PortCall}
-use Rattle.sheet.specs.declared.PortCall.TheVariants.{Read, Update, Measure, Down, Up}
+use Rattle.calls.specs.declared.PortCall.{PortCall}
+use Rattle.calls.specs.declared.PortCall.TheVariants.{Read, Update, Measure, Down, Up}
 use Rattle.perform.specs.Performed.{Seen, performed, port_performed, walked}
 use Rattle.text.specs.Texts.{transcript_text, unmade_text}
 
@@ -30,32 +30,35 @@ job_texts (on_pile cs) = map port_call_text cs
 
 -- A bus by its steps, its trace and its chip, of some chart.
 module _ {M : Type 0} (step : Steps M) (trace : M → Traced) (chip : M → Chip) (class : ℕ → Class) where
-  -- what is seen of calls on paging that is new over a bus at m, and where all lead
-  abbrev pub pile_walked : List PortCall → M → List Seen × PagingModel M
-  pile_walked cs m = walked (port_performed (paging_steps step chip class)) (λ k. trace k.bus) cs (paged m (Some 0))
-
-  -- what is seen of a job over a bus at m, and where the bus then is
+  -- what is seen of a job on a bus that is at m, or on new paging over it, and where the bus then is
   abbrev pub job_walked : Job → M → List Seen × M
   job_walked (on_bus cs) m = walked (performed step) trace cs m
-  job_walked (on_pile cs) m = let run = pile_walked cs m in (run.0, run.1.bus)
+  job_walked (on_pile cs) m = let run = walked (port_performed (paging_steps step chip class)) (λ k. trace k.bus) cs (paged m (Some 0)) in (run.0, run.1.bus)
 
   -- the text of it
   abbrev pub played : Job → M → List ℕ
   played job m = let run = job_walked job m in transcript_text (trace run.1) (chip run.1).failed (job_texts job) run.0
 
--- the most events that a call makes on the wire: of a get eight; of a put a start, an address, a raw address, two bytes for
--- each word and a stop
+-- the events of a get: two starts, each with its address, the raw address, two bytes and a stop
+abbrev pub get_room : ℕ
+get_room = 8
+
+-- the most events of a put of n words: a start, an address, a raw address, two bytes for each word and a stop
+abbrev pub put_room : ℕ → ℕ
+put_room n = 4 + 2 * min n 16
+
+-- the most events that a call makes on the wire
 abbrev pub call_room : Asked → ℕ
-call_room (get raw) = 8
-call_room (put raw ws) = 4 + 2 * min (length ws) 16
+call_room (get raw) = get_room
+call_room (put raw ws) = put_room (length ws)
 call_room (measure register w) = 0
 call_room down = 0
 call_room up = 0
 
 -- on a pile a read may select a page, which is a put of one word; and an update may put a word too
 abbrev pub port_call_room : PortCall → ℕ
-port_call_room (Read n) = 6 + 8
-port_call_room (Update n mask bits) = 6 + 8 + 6
+port_call_room (Read n) = put_room 1 + get_room
+port_call_room (Update n mask bits) = put_room 1 + get_room + put_room 1
 port_call_room (Measure n w) = 0
 port_call_room Down = 0
 port_call_room Up = 0

@@ -3,10 +3,10 @@
 
 ghost use Rattle.std.specs.Prelude.{◌≡◌, ℕ, map, sum_by, IfOk, MatchResult, string_bytes};
 ghost use Rattle.chart.specs.Replies.{told, failure_values};
-ghost use Rattle.sheet.specs.Said.{asked};
+ghost use Rattle.calls.specs.Asked.{asked};
 ghost use Rattle.sheet.specs.Sheets.{on_bus, on_pile, job_of, whole};
 ghost use Rattle.text.specs.Texts.{unmade_text};
-ghost use Rattle.transcript.specs.Told.{call_room, port_call_room, job_room, played, MakeTells, SheetTells};
+ghost use Rattle.transcript.specs.Told.{put_room, call_room, port_call_room, job_room, played, MakeTells, SheetTells};
 
 use bus::bus::Bus;
 use bus::unmade::Unmade;
@@ -23,6 +23,16 @@ use std::alloc::{AllocError, Global};
 use text::text::{unmade, written};
 use window::window::Window;
 
+// The events of a get: two starts, each with its address, the raw address, two bytes and a stop.
+const GET: usize = 8;
+
+// The most events of a put: a start, an address, a raw address, two bytes for each word and a stop.
+fn put_events(words: usize) -> usize
+    ensures { result ≡ put_room words }
+{
+    4 + 2 * words.min(16)
+}
+
 // What a call sends: the most events that it makes on the wire.
 trait Sends {
     ghost most: { Self → ℕ };
@@ -36,9 +46,8 @@ impl Sends for Call {
 
     fn most_events(&self) -> usize {
         match self {
-            Call::Get { .. } => 8,
-            // a start, an address, a raw address, two bytes a word, and a stop
-            Call::Put { words, .. } => 4 + 2 * words.len().min(16),
+            Call::Get { .. } => GET,
+            Call::Put { words, .. } => put_events(words.len()),
             _ => 0,
         }
     }
@@ -50,16 +59,16 @@ impl Sends for PortCall {
     fn most_events(&self) -> usize {
         match self {
             // a put that selects the page, and a get
-            PortCall::Read { .. } => 6 + 8,
+            PortCall::Read { .. } => put_events(1) + GET,
             // and a put of the word
-            PortCall::Update { .. } => 6 + 8 + 6,
+            PortCall::Update { .. } => put_events(1) + GET + put_events(1),
             _ => 0,
         }
     }
 }
 
 // The room that all frames of the calls need; where a number cannot tell it, there is no memory for it.
-fn room_of<C: Sends>(calls: &[C]) -> Result<usize, AllocError>
+fn room_for<C: Sends>(calls: &[C]) -> Result<usize, AllocError>
     ensures { IfOk result (λ n. n ≡ sum_by C.most calls.now) }
 {
     calls
@@ -72,8 +81,8 @@ fn room(calls: &Calls) -> Result<usize, AllocError>
     ensures { IfOk result (λ n. n ≡ job_room (job_of calls.now)) }
 {
     match calls {
-        Calls::Bus(calls) => room_of(calls.as_slice()),
-        Calls::Pile(calls) => room_of(calls.as_slice()),
+        Calls::Bus(calls) => room_for(calls.as_slice()),
+        Calls::Pile(calls) => room_for(calls.as_slice()),
     }
 }
 
@@ -117,7 +126,7 @@ fn play<B: Bus + Drop, T: Drop>(
 }
 
 // Performs a sheet on a new chip of one chart.
-fn play_on<C: Chart>(heap: Global, sheet: &Sheet) -> Result<String, AllocError>
+fn play_chart<C: Chart>(heap: Global, sheet: &Sheet) -> Result<String, AllocError>
     ensures { IfOk result (λ t. MakeTells C.Chart.classed C.Chart.resets sheet.now.make sheet.now.marks.items (job_of sheet.now.calls) (string_bytes t)) }
 {
     match sheet.make {
@@ -138,7 +147,7 @@ pub fn transcript(heap: Global, sheet: &Sheet) -> Result<String, AllocError>
     ensures { IfOk result (λ t. SheetTells (whole sheet.now) (string_bytes t)) }
 {
     match sheet.chart {
-        ChartName::Head => play_on::<Head>(heap, sheet),
-        ChartName::Valve => play_on::<Valve>(heap, sheet),
+        ChartName::Head => play_chart::<Head>(heap, sheet),
+        ChartName::Valve => play_chart::<Valve>(heap, sheet),
     }
 }

@@ -1,14 +1,14 @@
-// The calls of a sheet, each on what it is for. The clauses name the steps at the chart of what is called, as in `Bus` and `Port`.
+// Both kinds of calls, each on what it is for. What a call does names the steps at the chart of what is called, as clauses of `Bus` and `Port` do.
 ghost use Rattle.std.specs.Prelude.{◌≡◌};
-ghost use Rattle.sheet.specs.Said.{asked};
+ghost use Rattle.calls.specs.Asked.{asked};
 ghost use Rattle.perform.specs.Performed.{performed, port_performed};
 
 use crate::answer::{Answer, CallOn};
 use bus::bus::Bus;
+use calls::{Call, PortCall};
 use chart::patch::Patch;
 use chart::refusal::{Failure, Fault};
 use port::port::Port;
-use sheet::{Call, PortCall};
 
 impl<B: Bus> CallOn<B> for Call {
     type Told = Failure;
@@ -17,7 +17,7 @@ impl<B: Bus> CallOn<B> for Call {
 
     ghost model = { B.Bus.model };
 
-    ghost performed = { λ c m. performed (B.Bus.steps B.Chart.Chart.classed B.Chart.Chart.resets) (asked c) m };
+    ghost performed = { λ c. performed (B.Bus.steps B.Chart.Chart.classed B.Chart.Chart.resets) (asked c) };
 
     ghost trace = { B.Bus.trace };
 
@@ -55,7 +55,7 @@ impl<P: Port> CallOn<P> for PortCall {
 
     ghost model = { P.Port.model };
 
-    ghost performed = { λ c m. port_performed (P.Port.steps P.Chart.Chart.classed P.Chart.Chart.resets) c m };
+    ghost performed = { port_performed (P.Port.steps P.Chart.Chart.classed P.Chart.Chart.resets) };
 
     ghost trace = { P.Port.trace };
 

@@ -3,7 +3,7 @@ use Rattle.std.proofs.Common.{◌≡◌, ℕ, suc, ◌-◌, ◌/◌, ◌%◌, �
 use Rattle.std.proofs.lemmas.Bool.{cases_lt}
 use Rattle.std.proofs.lemmas.Fmt.{hex_byte, hex_one_digit, hex_two_digits}
 use Rattle.std.specs.Fmt.{digits, digits_onto, digit_glyph, char_count, padded_integral, format_spec}
-use Rattle.sheet.specs.Texts.{byte_text}
+use Rattle.calls.specs.Texts.{byte_text}
 use mathlib.Core.Logic.{⊎_elim}
 
 -- `{:02X}`

@@ -1,6 +1,6 @@
 use Rattle.std.proofs.Common.{replicate, refl, arith}
 use Rattle.transcript.proofs.Telling.{i2c_told, window_told}
-use Rattle.transcript.proofs.play_on.Goals as goal
+use Rattle.transcript.proofs.play_chart.Goals as goal
 
 pub returns-in_ok-trace-in-I2c : goal.returns-in_ok-trace-in-I2c
 returns-in_ok-trace-in-I2c g c =

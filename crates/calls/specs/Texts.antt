@@ -1,9 +1,9 @@
 -- A call as a sheet writes it. Assumes nothing.
 use Rattle.std.specs.Prelude.{ℕ, ◌+◌, ◌/◌, ◌%◌, cond, List, [], ◌∷◌, ◌++◌, codes, decimal, nat_lt}
 use Rattle.std.specs.List.{flat_map}
-use Rattle.sheet.specs.Said.{Asked, get, put, measure, down, up}
-use Rattle.sheet.specs.declared.PortCall.{PortCall}
-use Rattle.sheet.specs.declared.PortCall.TheVariants.{Read, Update, Measure, Down, Up}
+use Rattle.calls.specs.Asked.{Asked, get, put, measure, down, up}
+use Rattle.calls.specs.declared.PortCall.{PortCall}
+use Rattle.calls.specs.declared.PortCall.TheVariants.{Read, Update, Measure, Down, Up}
 
 -- a hexadecimal digit, with letters in upper case
 abbrev pub hex_digit : ℕ → ℕ
