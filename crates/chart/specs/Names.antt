@@ -18,12 +18,12 @@ abbrev pub refused_text : ℕ → List ℕ
 refused_text n = codes "refused " ++ (decimal n ++ (codes " " ++ refusal_name n))
 
 -- what a failed transfer tells: on a bus a cause and how many words were stored, on a port a cause, a register and an errand
-abbrev pub tale_text : List ℕ → List ℕ
-tale_text [] = []
-tale_text (cause ∷ []) = []
-tale_text (cause ∷ stored ∷ []) = codes "cause " ++ (decimal cause ++ (codes ", stored " ++ decimal stored))
-tale_text (cause ∷ register ∷ errand ∷ more) = codes "cause " ++ (decimal cause ++ (codes ", register " ++ (decimal register ++ (codes ", errand " ++ decimal errand))))
+abbrev pub told_text : List ℕ → List ℕ
+told_text [] = []
+told_text (cause ∷ []) = []
+told_text (cause ∷ stored ∷ []) = codes "cause " ++ (decimal cause ++ (codes ", stored " ++ decimal stored))
+told_text (cause ∷ register ∷ errand ∷ more) = codes "cause " ++ (decimal cause ++ (codes ", register " ++ (decimal register ++ (codes ", errand " ++ decimal errand))))
 
 -- a refusal by its number and its name; that of a failed transfer goes on with what is told
 abbrev pub refusal_text : Reply → List ℕ
-refusal_text r = refused_text r.number ++ cond (r.number == 6) (codes ", " ++ tale_text r.values) []
+refusal_text r = refused_text r.number ++ cond (r.number == 6) (codes ", " ++ told_text r.values) []

@@ -1,7 +1,7 @@
 // How a call says no: eight refusals, each with its number.
 ghost use Rattle.std.specs.Prelude.{◌≡◌, ℕ, List, [], Some};
 ghost use Rattle.chart.specs.Replies.{told, cause_number, errand_number, failure_values, fault_values};
-ghost use Rattle.chart.specs.Names.{refusal_name, tale_text, refusal_text};
+ghost use Rattle.chart.specs.Names.{refusal_name, told_text, refusal_text};
 ghost use Rattle.std.proofs.Common.{refl};
 
 use std::fmt;
@@ -10,7 +10,7 @@ use std::fmt;
 pub trait Tells: fmt::Display {
     ghost values: { Self → List ℕ };
 
-    ghost prints: { (f : Self) → Self.output f ≡ Some (tale_text (values f)) };
+    ghost prints: { (f : Self) → Self.output f ≡ Some (told_text (values f)) };
 }
 
 // `F` is what a failed transfer tells: on a bus a `Failure`, on a port a `Fault`.
@@ -110,7 +110,7 @@ impl Tells for Failure {
 }
 
 impl fmt::Display for Failure {
-    ghost output = { λ x. Some (tale_text (failure_values x)) };
+    ghost output = { λ x. Some (told_text (failure_values x)) };
 
     fn fmt<W: fmt::Write>(&self, f: &mut fmt::Formatter<W>) -> fmt::Result {
         let cause = self.cause.number();
@@ -149,7 +149,7 @@ impl Tells for Fault {
 }
 
 impl fmt::Display for Fault {
-    ghost output = { λ x. Some (tale_text (fault_values x)) };
+    ghost output = { λ x. Some (told_text (fault_values x)) };
 
     fn fmt<W: fmt::Write>(&self, f: &mut fmt::Formatter<W>) -> fmt::Result {
         let cause = self.cause.number();

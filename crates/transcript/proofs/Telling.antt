@@ -1,4 +1,4 @@
--- The text of a new bus, by its own model. Assumes nothing.
+-- The text of calls on a bus, and that of a new bus by its own model. Assumes nothing.
 use Rattle.std.proofs.Common.{◌≡◌, ℕ, ◌≤◌, false, List, [], length, MatchResult, IfOk, Ok, Err, string_bytes, Result, String, map, sym, ap, ◌∙◌, inl, inr}
 use Rattle.std.specs.Borrow.{MutBor}
 use Rattle.bus.specs.I2cs.{I2cModel, i2c_steps, i2c_chip, i2c_trace}

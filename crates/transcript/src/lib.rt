@@ -86,7 +86,7 @@ fn room(calls: &Calls) -> Result<usize, AllocError>
     }
 }
 
-// The clauses name the steps at the bus's own chart, as in `Bus`.
+// Performs calls on a bus, and tells what came of them. The clause names the steps at the bus's own chart, as in `Bus`.
 fn play_on_bus<B: Bus + Drop>(
     heap: Global,
     mut bus: B,
@@ -98,6 +98,7 @@ fn play_on_bus<B: Bus + Drop>(
     written(heap, &bus, calls, outcomes.as_slice())
 }
 
+// Performs calls on new paging over a bus.
 fn play_on_pile<B: Bus + Drop>(
     heap: Global,
     bus: B,
