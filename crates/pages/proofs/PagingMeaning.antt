@@ -1,7 +1,6 @@
 -- Paging over a bus that has the meaning of a bus has the meaning of a port. Assumes nothing.
 use Rattle.std.proofs.Common.{◌≡◌, ℕ, ◌+◌, ◌-◌, ◌^◌, ◌<◌, ◌≤◌, Bool, true, false, cond, eqb, ◌⊎◌, List, [], ◌∷◌, length, get_or, take, None, sym, refl, ap, ◌∙◌, subst, inl, inr, ⊎_elim, add-zero, arith, rules}
 use Rattle.std.proofs.lemmas.List.{length-take-le}
-use Rattle.std.proofs.lemmas.Bool.Decides.{nat_tests}
 use Rattle.std.proofs.lemmas.Bool.{false≢true, cases_Bool, cases_lt, eqb-true}
 use Rattle.chart.specs.Patch.{acted, idle, complete}
 use Rattle.chart.specs.Replies.{Reply, accepted, refused}
@@ -21,14 +20,9 @@ use Rattle.port.specs.Views.{View, view_of, Agree, replaced, ran}
 use Rattle.port.specs.Meaning.{PortSteps, PortMeaning, PatchFits, Stood, Failed, SettingRead, LiveRead, Updated, Ran, NewView, Measured, WentDown, CameUp}
 use Rattle.port.proofs.Settled.{read_settled, update_settled, measure_settled, run_settled, in_chart, run_in_chart}
 use Rattle.pages.specs.Machine.{PagingModel, PagingSound, PagingNew, Believed, paged, located, fetched, piece_sent, rewritten, update_sent, run_sent, paging_steps, paging_shown}
-use Rattle.pages.proofs.Storing.{set_replaces, ran_outside, ran_part}
+use Rattle.port.proofs.Replacing.{replaced_same, replaced_other, set_replaces, ran_outside}
+use Rattle.pages.proofs.Storing.{ran_part}
 use Rattle.pages.proofs.Sending.{Left, Broken, Fetches, StoresOver, Stores, word, awake_at, unmoved, stores_on, fetches, piece_stores, run_stores}
-
-replaced_same : (n w : ℕ) (f : ℕ → ℕ) (i : ℕ) → w ≡ f n → replaced n w f i ≡ f i
-replaced_same n w f i e = grind (arith, nat_tests)
-
-replaced_other : (n w : ℕ) (f : ℕ → ℕ) (i : ℕ) → (i ≡ n → ⊥) → replaced n w f i ≡ f i
-replaced_other n w f i away = search rules
 
 measured_words : (on : Bool) (n w : ℕ) (ws : List ℕ) (i : ℕ) → n < length ws → get_or (words_measured on n w ws) i 0 ≡ cond on (replaced n w (λ k. get_or ws k 0)) (λ k. get_or ws k 0) i
 measured_words on n w ws i h = search (rules, set_replaces)

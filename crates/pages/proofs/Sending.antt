@@ -13,8 +13,10 @@ use Rattle.bus.specs.Checks.{get_check, put_check}
 use Rattle.bus.specs.Meaning.{Steps, BusMeaning, Got, Put}
 use Rattle.port.specs.Views.{word_in, ran}
 use Rattle.pages.specs.Places.{page_of, raw_of, room_of}
-use Rattle.pages.specs.Machine.{PagingModel, PagingSound, Believed, paged, believes, ready, selected, onward, reached, got, told_at, fetched, piece_sent, run_sent}
-use Rattle.pages.proofs.Storing.{Aimed, aimed, aimed_less, loaded_at, ran_same, ran_outside, ran-append, burst_words}
+use Rattle.port.specs.Checks.{onward}
+use Rattle.pages.specs.Machine.{PagingModel, PagingSound, Believed, paged, believes, ready, selected, reached, got, told_at, fetched, piece_sent, run_sent}
+use Rattle.port.proofs.Replacing.{ran_same, ran_outside}
+use Rattle.pages.proofs.Storing.{Aimed, aimed, aimed_less, loaded_at, ran-append, burst_words}
 
 put_goes : (raw n : ℕ) → 0 < n → n ≤ 16 → raw + n ≤ 64 → put_check raw n true ≡ None
 put_goes raw n some few fits = grind (arith, nat_tests)

@@ -1,10 +1,11 @@
 -- What a burst to registers of one page makes of a chip's words. Assumes nothing.
-use Rattle.std.proofs.Common.{◌≡◌, ℕ, zero, suc, ◌+◌, ◌*◌, ◌%◌, ◌<◌, ◌≤◌, cond, eqb, ◌⊎◌, List, [], ◌∷◌, ◌++◌, length, get_or, take, set, Some, sym, refl, ap, ◌∙◌, inl, inr, ⊎_elim, add-zero, arith}
-use Rattle.std.proofs.lemmas.List.{length-set, get_or-set_same, get_or-set_other}
+use Rattle.std.proofs.Common.{◌≡◌, ℕ, zero, suc, ◌+◌, ◌*◌, ◌%◌, ◌<◌, ◌≤◌, ◌⊎◌, List, [], ◌∷◌, ◌++◌, length, get_or, take, set, Some, sym, refl, ap, ◌∙◌, inl, inr, ⊎_elim, add-zero, arith}
+use Rattle.std.proofs.lemmas.List.{length-set, get_or-set_other}
 use Rattle.std.proofs.lemmas.Bool.Decides.{nat_tests}
 use Rattle.std.proofs.lemmas.Bool.{cases_eq, cond-false, ne_eqb}
 use Rattle.chip.specs.Words.{selector, placed, loaded, stored_at, rising, all_stored}
 use Rattle.port.specs.Views.{replaced, ran}
+use Rattle.port.proofs.Replacing.{set_replaces, ran_same, ran_outside}
 use Rattle.pages.specs.Places.{page_of, raw_of}
 
 -- Under selector s, raw addresses from raw on are the n registers from first on: fixed ones, or some of the selected page.
@@ -29,19 +30,6 @@ loaded_at ws raw n k h at = rw (aimed_at (selector ws) raw n k h at)
 
 stored_set : (ws : List ℕ) (raw n k w : ℕ) → 0 < k → Aimed (selector ws) raw n k → stored_at ws raw w ≡ set ws n w
 stored_set ws raw n k w h at = rw (aimed_at (selector ws) raw n k h at, ne_eqb raw 0 (λ z. omega (arith, at.0)))
-
-pub set_replaces : (ws : List ℕ) (n w i : ℕ) → n < length ws → get_or (set ws n w) i 0 ≡ replaced n w (λ k. get_or ws k 0) i
-set_replaces ws n w i h = grind (arith, nat_tests, get_or-set_same, get_or-set_other)
-
--- a word after a run is known by that word before it
-pub ran_same : (first : ℕ) (vs : List ℕ) (f g : ℕ → ℕ) (i : ℕ) → f i ≡ g i → ran first vs f i ≡ ran first vs g i
-ran_same first [] f g i e = e
-ran_same first (v ∷ vs) f g i e = ran_same (first + 1) vs (replaced first v f) (replaced first v g) i (ap (λ x. cond (eqb i first) v x) e)
-
--- what lies before or after a run stands
-pub ran_outside : (first : ℕ) (vs : List ℕ) (f : ℕ → ℕ) (i : ℕ) → (i < first) ⊎ (first + length vs ≤ i) → ran first vs f i ≡ f i
-ran_outside first [] f i out = refl
-ran_outside first (v ∷ vs) f i out = ran_outside (first + 1) vs (replaced first v f) i (grind arith) ∙ grind (arith, nat_tests)
 
 pub ran-append : (first : ℕ) (xs ys : List ℕ) (f : ℕ → ℕ) (i : ℕ) → ran (first + length xs) ys (ran first xs f) i ≡ ran first (xs ++ ys) f i
 ran-append first [] ys f i = ap (λ k. ran k ys f i) (add-zero first)

@@ -8,7 +8,7 @@ use Rattle.chip.specs.Words.{selector}
 use Rattle.bus.specs.Checks.{measure_check, unless}
 use Rattle.bus.specs.Chips.{Chip}
 use Rattle.bus.specs.Meaning.{Steps}
-use Rattle.port.specs.Checks.{read_check, update_check, run_check}
+use Rattle.port.specs.Checks.{read_check, update_check, run_check, is_accepted, onward}
 use Rattle.port.specs.Meaning.{PortSteps}
 use Rattle.port.specs.Views.{word_in}
 use Rattle.pages.specs.Places.{page_of, raw_of, room_of}
@@ -31,9 +31,6 @@ fault_of n (cause ∷ stored ∷ more) = cause ∷ (n + stored) ∷ 0 ∷ []
 abbrev pub located : ℕ → Reply → Reply
 located n r = record { number = r.number; values = fault_of n r.values }
 
-abbrev pub is_accepted : Reply → Bool
-is_accepted r = r.number == 0
-
 abbrev pub believes : Option ℕ → ℕ → Bool
 believes None p = false
 believes (Some q) p = q == p
@@ -45,10 +42,6 @@ ready page n = nat_lt n 32 || believes page (page_of n)
 -- after a put of the selector: accepted, the page is believed; failed, none is
 abbrev pub selected : {M : Type 0} → ℕ → Reply × M → Reply × PagingModel M
 selected n p = (located n p.0, paged p.1 (cond (is_accepted p.0) (Some (page_of n)) None))
-
--- the second part of a call follows where the first was accepted
-abbrev pub onward : {M : Type 0} → Reply × M → (M → Reply × M) → Reply × M
-onward p next = cond (is_accepted p.0) (next p.1) p
 
 module _ {M : Type 0} (step : Steps M) where
   abbrev pub reached : PagingModel M → ℕ → Reply × PagingModel M

@@ -1,4 +1,4 @@
--- What a call on a port is refused for before anything is sent, the first in order. Assumes nothing.
+-- What a call on a port is refused for before anything is sent, the first in order; and that a refusal ends a call. Assumes nothing.
 use Rattle.std.specs.Prelude.{ℕ, zero, suc, ◌+◌, Bool, cond, ◌||◌, [], Some, Option, ◌==◌, nat_lt}
 use Rattle.chart.specs.Replies.{Reply, refused}
 use Rattle.chart.specs.declared.class.Class.{Class}
@@ -32,3 +32,10 @@ worst class first (suc n) = worse (worst class first n) (class (first + n))
 -- a run of n words is refused as an update of its worst register is
 abbrev pub run_check : Bool → (ℕ → Class) → ℕ → ℕ → Bool → Option Reply
 run_check keeps class first n on = cond (n == 0 || nat_lt 16 n) (Some (refused 1 [])) (update_check keeps (worst class first n) on)
+
+abbrev pub is_accepted : Reply → Bool
+is_accepted r = r.number == 0
+
+-- the second part of a call follows where the first was accepted
+abbrev pub onward : {M : Type 0} → Reply × M → (M → Reply × M) → Reply × M
+onward p next = cond (is_accepted p.0) (next p.1) p

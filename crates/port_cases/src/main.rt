@@ -1,15 +1,17 @@
-// Asks a port for what lies at the edges of what it takes, and checks and prints each answer: on paging over both makes of bus.
+// Asks ports for what lies at the edges of what they take, and checks and prints each answer: paging over both makes of bus, and a keeper on it.
 #![tactic(auto)]
 
 ghost use Rattle.std.specs.Prelude.{◌≡◌, ◌==◌};
 ghost use Rattle.chart.specs.Replies.{port_reply, no_value};
 
+use bus::bus::Bus;
 use chart::charts::Head;
 use chart::patch::Patch;
 use chart::refusal::{Fault, Refusal};
 use chip::memory;
 use i2c::i2c::I2c;
 use i2c_target::trace::Trace;
+use keeper::keeper::Keeper;
 use paging::paging::Paging;
 use port::port::Port;
 use std::fmt;
@@ -74,32 +76,68 @@ fn awake<P: Port<Chart = Head>>(port: &mut P) -> [Case; 16] {
     ]
 }
 
-// Asleep is told last.
+// Asleep is told last, and of settings only by a port that forgets them.
 #[rattlefmt::skip]
-fn asleep<P: Port<Chart = Head>>(port: &mut P) -> [Case; 9] {
+fn asleep<P: Port<Chart = Head>>(port: &mut P) -> [Case; 10] {
     let patch = Patch { mask: 0xFFFF, bits: 7 };
+    let of_settings = if P::KEEPS { 0 } else { 5 };
     port.down();
     [
         Case { call: "run of 17 from 40", answer: port.run(40, &[7; 17]), expected: 1 },
         Case { call: "run of 10 from 19", answer: port.run(19, &[7; 10]), expected: 2 },
         Case { call: "run of 5 from 19", answer: port.run(19, &[7; 5]), expected: 3 },
-        Case { call: "run of 2 from 40", answer: port.run(40, &[7; 2]), expected: 5 },
+        Case { call: "run of 2 from 40", answer: port.run(40, &[7; 2]), expected: of_settings },
         Case { call: "read 28", answer: read(port, 28), expected: 2 },
-        Case { call: "read 19", answer: read(port, 19), expected: 5 },
+        Case { call: "read 19", answer: read(port, 19), expected: of_settings },
+        Case { call: "read 20", answer: read(port, 20), expected: 5 },
         Case { call: "update 20", answer: port.update(20, patch), expected: 3 },
-        Case { call: "update 19", answer: port.update(19, patch), expected: 5 },
+        Case { call: "update 19", answer: port.update(19, patch), expected: of_settings },
         Case { call: "measure 19", answer: port.measure(19, 7), expected: 4 },
     ]
 }
 
 // Prints cases, and answers whether all hold.
-fn show(rt: &HostRuntime, title: &str, cases: &[Case]) -> anyhow::Result<bool> {
-    println!(rt; "{title}")?;
+fn show(rt: &HostRuntime, cases: &[Case]) -> anyhow::Result<bool> {
     for case in cases {
         let mark = if case.holds() { "" } else { " WRONG" };
         println!(rt; "  {case}{mark}")?;
     }
     Ok(cases.iter().all(|case| case.holds()))
+}
+
+fn show_port<P: Port<Chart = Head>>(
+    rt: &HostRuntime,
+    title: &str,
+    port: &mut P,
+) -> anyhow::Result<bool> {
+    println!(rt; "{title}")?;
+    let awake = show(rt, &awake(port))?;
+    println!(rt; "{title}, asleep")?;
+    Ok(awake & show(rt, &asleep(port))?)
+}
+
+// After those cases a keeper owes 19, and 16 settings from 40 on, which are one run.
+fn show_owed<P: Port>(rt: &HostRuntime, keeper: &Keeper<P>) -> anyhow::Result<bool> {
+    let (settings, runs) = keeper.tally();
+    println!(rt; "  owed: {settings} settings in {runs} runs")?;
+    let one_of_them = |register: u16| register == 19 || (40..56).contains(&register);
+    Ok(settings == 17 && runs == 2 && keeper.any_owed().is_some_and(one_of_them))
+}
+
+// Paging over a bus, and then a keeper on it.
+fn show_pile<B: Bus<Chart = Head> + Drop>(
+    rt: &HostRuntime,
+    paging_title: &str,
+    keeper_title: &str,
+    bus: B,
+) -> anyhow::Result<bool> {
+    let mut paging = Paging::new(bus);
+    let paging_holds = show_port(rt, paging_title, &mut paging)?;
+    // The cases have left it asleep; awake again it is as new.
+    paging.up();
+    let mut keeper = Keeper::new(paging);
+    let keeper_holds = show_port(rt, keeper_title, &mut keeper)?;
+    Ok(paging_holds & keeper_holds & show_owed(rt, &keeper)?)
 }
 
 fn main(rt: HostRuntime) -> anyhow::Result<ExitCode> {
@@ -110,17 +148,14 @@ fn main(rt: HostRuntime) -> anyhow::Result<ExitCode> {
     let Ok(i2c) = I2c::<Head>::new(0x2A, &[], Trace::new(rt.alloc(), 0)?) else {
         return Ok(ExitCode::FAILURE);
     };
-    let mut over_window = Paging::new(window);
-    let mut over_i2c = Paging::new(i2c);
-    let mut hold = show(&rt, "paging over a window", &awake(&mut over_window))?;
-    hold &= show(
+    let over_window = show_pile(
         &rt,
-        "paging over a window, asleep",
-        &asleep(&mut over_window),
+        "paging over a window",
+        "a keeper on paging over a window",
+        window,
     )?;
-    hold &= show(&rt, "paging over I2C", &awake(&mut over_i2c))?;
-    hold &= show(&rt, "paging over I2C, asleep", &asleep(&mut over_i2c))?;
-    if hold {
+    let over_i2c = show_pile(&rt, "paging over I2C", "a keeper on paging over I2C", i2c)?;
+    if over_window & over_i2c {
         println!(rt; "all cases hold")?;
         Ok(ExitCode::SUCCESS)
     } else {

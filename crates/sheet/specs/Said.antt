@@ -4,8 +4,10 @@ use Rattle.std.specs.Option.{ok_or}
 use Rattle.std.specs.Str.{bytes_eq}
 use Rattle.sheet.specs.declared.Make.{Make}
 use Rattle.sheet.specs.declared.ChartName.{ChartName}
+use Rattle.sheet.specs.declared.layers.Layer.{Layer}
 use Rattle.sheet.specs.declared.Make.TheVariants.{I2c, Window}
 use Rattle.sheet.specs.declared.ChartName.TheVariants.{Head, Valve}
+use Rattle.sheet.specs.declared.layers.Layer.TheVariants.{Keeper}
 use Rattle.calls.specs.Asked.{Asked, get, put, measure, down, up}
 use Rattle.calls.specs.declared.PortCall.{PortCall}
 use Rattle.calls.specs.declared.PortCall.TheVariants as port
@@ -83,15 +85,17 @@ chart_of [] = Err WordCount
 chart_of (w ∷ []) = chart_named w
 chart_of (w ∷ v ∷ vs) = Err WordCount
 
--- no layer is known yet
-abbrev pub no_layer : List (List ℕ) → Result (Unit {0}) Mistake
-no_layer [] = Ok tt
-no_layer (w ∷ ws) = Err UnknownLayer
+abbrev pub layer_of : List ℕ → Result Layer Mistake
+layer_of w = cond (bytes_eq w (codes "keeper")) (Ok Keeper) (Err UnknownLayer)
 
--- paging, and no layer over it
-abbrev pub pile_of : List (List ℕ) → Result (Unit {0}) Mistake
+-- a port that stands on the bus, and the layers over it from the bottom up
+abbrev pub piled : List ℕ → List (List ℕ) → Result (List Layer) Mistake
+piled w ws = cond (bytes_eq w (codes "paging")) (all_of layer_of ws) (Err UnknownPile)
+
+-- at most three layers
+abbrev pub pile_of : List (List ℕ) → Result (List Layer) Mistake
 pile_of [] = Err WordCount
-pile_of (w ∷ ws) = cond (bytes_eq w (codes "paging")) (no_layer ws) (Err UnknownPile)
+pile_of (w ∷ ws) = cond (nat_lt 3 (length ws)) (Err WordCount) (piled w ws)
 
 abbrev pub put_with : Result ℕ Mistake → Result (List ℕ) Mistake → Result Asked Mistake
 put_with (Err m) r = Err m

@@ -6,6 +6,8 @@ use Rattle.sheet.specs.declared.ChartName.{ChartName}
 use Rattle.sheet.specs.declared.ChartName.TheVariants.{Head}
 use Rattle.sheet.specs.declared.Fault.{Fault}
 use Rattle.sheet.specs.declared.Fault.TheVariants.{Memory, Wrong}
+use Rattle.sheet.specs.declared.layers.Layer.{Layer}
+use Rattle.sheet.specs.declared.layers.Layers.{Layers}
 use Rattle.sheet.specs.declared.Make.{Make}
 use Rattle.sheet.specs.declared.Make.TheVariants.{I2c, Window}
 use Rattle.sheet.specs.declared.Calls.{Calls}
@@ -20,14 +22,18 @@ use Rattle.sheet.specs.declared.LineError.TheVariants as line_error
 use Rattle.sheet.specs.Cut.{before, words_of, lines_of}
 use Rattle.sheet.specs.Said.{bus_of, chart_of, marks_of, pile_of, call_named, port_call_named}
 
--- what is to be performed: calls on a bus alone, or on a pile over it
+-- what is to be performed: calls on a bus alone, or on a pile over it, with its layers from the bottom up
 pub data Job : Type 0 where
   on_bus : List Asked → Job
-  on_pile : List PortCall → Job
+  on_pile : List Layer → List PortCall → Job
+
+-- from the bottom up
+abbrev pub listed : Layers → List Layer
+listed ls = vec_items ls.layers
 
 abbrev pub job_of : Calls → Job
 job_of (Bus cs) = on_bus (map asked (vec_items cs))
-job_of (Pile cs) = on_pile (vec_items cs)
+job_of (Pile ls cs) = on_pile (listed ls) (vec_items cs)
 
 -- what has been said so far
 pub record Sofar : Type 0 where
@@ -54,11 +60,11 @@ none (x ∷ xs) = false
 
 abbrev pub no_calls : Job → Bool
 no_calls (on_bus cs) = none cs
-no_calls (on_pile cs) = none cs
+no_calls (on_pile ls cs) = none cs
 
 abbrev pub is_pile : Job → Bool
 is_pile (on_bus cs) = false
-is_pile (on_pile cs) = true
+is_pile (on_pile ls cs) = true
 
 -- the first mistake in the words of a line, or else what becomes of what they say
 abbrev pub and_then : {X : Type 0} → Result X Mistake → (X → Result Sofar Mistake) → Result Sofar Mistake
@@ -78,8 +84,8 @@ with_chart d c = early d (cond (is_some d.name) (Err SecondChart) (Ok (record d 
 abbrev pub with_marks : Sofar → List ℕ → Result Sofar Mistake
 with_marks d ms = early d (cond (on_window d.make) (Err MarksOnWindow) (Ok (record d { marked = true; marks = d.marks ++ ms })))
 
-abbrev pub with_pile : Sofar → Result Sofar Mistake
-with_pile d = early d (cond (is_pile d.job) (Err SecondPile) (Ok (record d { job = on_pile [] })))
+abbrev pub with_pile : Sofar → List Layer → Result Sofar Mistake
+with_pile d ls = early d (cond (is_pile d.job) (Err SecondPile) (Ok (record d { job = on_pile ls [] })))
 
 -- a call comes after the bus
 abbrev pub with_job : Sofar → Job → Result Sofar Mistake
@@ -88,7 +94,7 @@ with_job d job = cond (is_some d.make) (Ok (record d { job = job })) (Err NoBus)
 -- which calls a line may hold is settled by what they are performed on
 abbrev pub with_call : Sofar → Job → List ℕ → List (List ℕ) → Result Sofar Mistake
 with_call d (on_bus cs) name ws = and_then (call_named name ws) (λ c. with_job d (on_bus (cs ++ c ∷ [])))
-with_call d (on_pile cs) name ws = and_then (port_call_named name ws) (λ c. with_job d (on_pile (cs ++ c ∷ [])))
+with_call d (on_pile ls cs) name ws = and_then (port_call_named name ws) (λ c. with_job d (on_pile ls (cs ++ c ∷ [])))
 
 -- a statement by its name and the words after it
 abbrev pub with_statement : Sofar → List ℕ → List (List ℕ) → Result Sofar Mistake
@@ -96,7 +102,7 @@ with_statement d name ws =
     cond (bytes_eq name (codes "bus")) (and_then (bus_of ws) (with_bus d))
     (cond (bytes_eq name (codes "chart")) (and_then (chart_of ws) (with_chart d))
     (cond (bytes_eq name (codes "marks")) (and_then (marks_of ws) (with_marks d))
-    (cond (bytes_eq name (codes "pile")) (and_then (pile_of ws) (λ _. with_pile d))
+    (cond (bytes_eq name (codes "pile")) (and_then (pile_of ws) (with_pile d))
     (with_call d d.job name ws))))
 
 -- a line that has no words says nothing

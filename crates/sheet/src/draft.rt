@@ -1,10 +1,10 @@
 // What a sheet has said so far.
 ghost use Rattle.std.specs.Prelude.{◌≡◌, cond, vec_items};
 ghost use Rattle.sheet.specs.Said.{Gives, map_ok};
-ghost use Rattle.sheet.specs.Sheets.{blank_sheet, no_calls, with_bus, with_chart, with_marks, with_pile, with_call, with_statement, after_line, finished, Reads};
+ghost use Rattle.sheet.specs.Sheets.{listed, blank_sheet, no_calls, with_bus, with_chart, with_marks, with_pile, with_call, with_statement, after_line, finished, Reads};
 
 use crate::cut::{Words, uncommented};
-use crate::{Calls, ChartName, Fault, LineError, Make, Mistake, Sheet, line};
+use crate::{Calls, ChartName, Fault, Layers, LineError, Make, Mistake, Sheet, line};
 use std::alloc::Global;
 use std::marker::Model;
 
@@ -21,7 +21,7 @@ pub struct Draft {
 impl Model for Draft {
     ghost use Rattle.std.specs.Prelude.{[], is_some, vec_items};
     ghost use Rattle.std.specs.Option.{option_map, unwrap_or};
-    ghost use Rattle.sheet.specs.Sheets.{Sofar, job_of};
+    ghost use Rattle.sheet.specs.Sheets.{listed, Sofar, job_of};
 
     ghost Value = { Sofar };
 
@@ -92,14 +92,17 @@ impl Draft {
         Ok(())
     }
 
-    fn pile(&mut self) -> Result<(), Mistake>
-        ensures { map_ok (λ _. self.new) result ≡ with_pile self.old }
+    fn pile(&mut self, layers: Layers) -> Result<(), Mistake>
+        ensures { map_ok (λ _. self.new) result ≡ with_pile self.old (listed layers) }
     {
         self.opening()?;
-        if matches!(self.calls, Calls::Pile(_)) {
+        if matches!(self.calls, Calls::Pile { .. }) {
             return Err(Mistake::SecondPile);
         }
-        self.calls = Calls::Pile(Vec::new(self.heap));
+        self.calls = Calls::Pile {
+            layers,
+            calls: Vec::new(self.heap),
+        };
         Ok(())
     }
 
@@ -114,7 +117,7 @@ impl Draft {
                 let _ = bus?;
                 calls.push(call)?;
             }
-            Calls::Pile(calls) => {
+            Calls::Pile { calls, .. } => {
                 let call = line::read_port_call(name, words)?;
                 let _ = bus?;
                 calls.push(call)?;
@@ -132,10 +135,7 @@ impl Draft {
             b"bus" => Ok(self.bus(line::bus(words)?)?),
             b"chart" => Ok(self.chart(line::chart(words)?)?),
             b"marks" => self.marks(line::marks(self.heap, words)?),
-            b"pile" => {
-                line::pile(words)?;
-                Ok(self.pile()?)
-            }
+            b"pile" => Ok(self.pile(line::pile(self.heap, words)?)?),
             _ => self.call(name, words),
         }
     }

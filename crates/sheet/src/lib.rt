@@ -6,7 +6,7 @@
 //     bus i2c ADDRESS | bus window          once, before the first call
 //     chart head | chart valve              at most once; `head` where it is left out
 //     marks N ..                            on i2c only; several such lines make one list
-//     pile paging                           at most once; where it is left out, calls are made on the bus
+//     pile paging LAYER ..                  at most once; where it is left out, calls are made on the bus
 //
 //     get RAW                               on a bus
 //     put RAW WORD ..
@@ -16,9 +16,12 @@
 //     down
 //     up
 //
-// The first four open a sheet, in any order, and come before the first call. Of the mistakes of one line the one that is
-// told is the first of: an unknown statement or a call of the other kind, the number of its words, its words from left to
-// right, and its place in the sheet. The make of a bus, which decides the number, and the words of a pile come before it.
+// The first four open a sheet, in any order, and come before the first call. The layers of a pile are named from the bottom
+// up, at most three of them; the one that there is so far is `keeper`.
+//
+// Of the mistakes of one line the one that is told is the first of: an unknown statement or a call of the other kind, the
+// number of its words, its words from left to right, and its place in the sheet. The make of a bus comes before the number
+// of its words, which it decides.
 #![tactic(auto)]
 
 ghost use Rattle.std.specs.Prelude.{◌≡◌};
@@ -29,12 +32,14 @@ pub use calls::{Call, PortCall};
 use cut::Lines;
 pub use digits::number;
 use draft::Draft;
+pub use layers::{Layer, Layers};
 use std::alloc::{AllocError, AllocFailed, Global};
 use thiserror::Error;
 
 mod cut;
 mod digits;
 mod draft;
+mod layers;
 mod line;
 
 // How the chip is reached: at an address of the bus, or through a window of memory.
@@ -50,11 +55,14 @@ pub enum ChartName {
     Valve,
 }
 
-// The calls of a sheet, by what they are performed on: a bus alone, or a pile.
+// The calls of a sheet, by what they are performed on: a bus alone, or a pile, which has its layers from the bottom up.
 #[derive(Debug, PartialEq, Eq, Drop)]
 pub enum Calls {
     Bus(Vec<Call>),
-    Pile(Vec<PortCall>),
+    Pile {
+        layers: Layers,
+        calls: Vec<PortCall>,
+    },
 }
 
 impl Calls {
@@ -63,7 +71,7 @@ impl Calls {
     {
         match self {
             Calls::Bus(calls) => calls.is_empty(),
-            Calls::Pile(calls) => calls.is_empty(),
+            Calls::Pile { calls, .. } => calls.is_empty(),
         }
     }
 }

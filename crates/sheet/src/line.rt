@@ -1,11 +1,13 @@
 // Reads the words of one line.
-ghost use Rattle.std.specs.Prelude.{◌≡◌, ℕ, cond, List, Result, vec_items};
+ghost use Rattle.std.specs.Prelude.{◌≡◌, ℕ, cond, List, Result, length, vec_items};
 ghost use Rattle.calls.specs.Asked.{asked};
-ghost use Rattle.sheet.specs.Said.{Gives, exactly, all_of, only_on_pile, call_named, port_call_named, bus_of, chart_of, marks_of, pile_of, put_of, number_of, mark_of};
+ghost use Rattle.sheet.specs.Sheets.{listed};
+ghost use Rattle.sheet.specs.Said.{Gives, exactly, all_of, only_on_pile, call_named, port_call_named, bus_of, chart_of, marks_of, layer_of, pile_of, put_of, number_of, mark_of};
 
 use crate::cut::Words;
 use crate::digits::number;
-use crate::{Call, ChartName, LineError, Make, Mistake, PortCall};
+use crate::layers::MOST_LAYERS;
+use crate::{Call, ChartName, Layer, Layers, LineError, Make, Mistake, PortCall};
 use std::alloc::Global;
 
 fn a_number(word: &[u8]) -> Result<u16, Mistake>
@@ -20,12 +22,19 @@ fn a_mark(word: &[u8]) -> Result<u8, Mistake>
     u8::try_from(a_number(word)?).map_err(|_| Mistake::NotAMark)
 }
 
-// The `N` numbers of a line that has just so many words left.
+// How many words are left. It takes a copy of them, since counting uses them up.
 #[tactic(auto, using(crate::proofs::Cutting::few_after))]
+fn count(words: &Words) -> usize
+    ensures { result ≡ length words.now }
+{
+    Words(words.0).count()
+}
+
+// The `N` numbers of a line that has just so many words left.
 fn numbers<const N: usize>(words: Words) -> Result<[u16; N], Mistake>
     ensures { result ≡ exactly N words.entry }
 {
-    if Words(words.0).count() != N {
+    if count(&words) != N {
         return Err(Mistake::WordCount);
     }
     let mut numbers = [0; N];
@@ -89,17 +98,37 @@ pub fn marks(heap: Global, words: Words) -> Result<Vec<u8>, LineError>
     all(heap, words, a_mark)
 }
 
-// Paging, and no layer over it: none is known yet.
 #[tactic(auto, using(crate::proofs::Naming::names))]
-pub fn pile(mut words: Words) -> Result<(), Mistake>
-    ensures { result ≡ pile_of words.entry }
+fn layer(word: &[u8]) -> Result<Layer, Mistake>
+    ensures { result ≡ layer_of word.now }
 {
-    match words.next().ok_or(Mistake::WordCount)? {
-        b"paging" => match words.next() {
-            Some(_) => Err(Mistake::UnknownLayer),
-            None => Ok(()),
-        },
-        _ => Err(Mistake::UnknownPile),
+    match word {
+        b"keeper" => Ok(Layer::Keeper),
+        _ => Err(Mistake::UnknownLayer),
+    }
+}
+
+fn layers(heap: Global, words: Words) -> Result<Vec<Layer>, LineError>
+    ensures { Gives vec_items result (all_of layer_of words.entry) }
+{
+    all(heap, words, layer)
+}
+
+// Paging, and the layers over it from the bottom up.
+#[tactic(auto, using(crate::proofs::Listing::few_of))]
+pub fn pile(heap: Global, mut words: Words) -> Result<Layers, LineError>
+    ensures { Gives listed result (pile_of words.entry) }
+{
+    let port = words.next().ok_or(Mistake::WordCount)?;
+    if count(&words) > MOST_LAYERS {
+        return Err(Mistake::WordCount.into());
+    }
+    match port {
+        b"paging" => {
+            let layers = layers(heap, words)?;
+            Ok(Layers { layers })
+        }
+        _ => Err(Mistake::UnknownPile.into()),
     }
 }
 

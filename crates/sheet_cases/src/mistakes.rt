@@ -1,4 +1,4 @@
-use sheet::{Call, Calls, ChartName, Fault, Make, Mistake, PortCall, Sheet, read};
+use sheet::{Call, Calls, ChartName, Fault, Layer, Layers, Make, Mistake, PortCall, Sheet, read};
 use std::alloc::Global;
 use std::process::Abort;
 use std::test::Fail;
@@ -41,7 +41,11 @@ fn reads_every_statement(rt: HostRuntime) -> Result<(), Fail> {
 fn reads_every_statement_of_a_pile(rt: HostRuntime) -> Result<(), Fail> {
     let heap = rt.alloc();
     let text =
-        b"pile  paging # and no layer\nbus window\nread 64\nupdate 0x41 255 0x00aA\nmeasure 112 7\ndown\nup\n";
+        b"pile  paging keeper\tkeeper keeper # as many as there may be\nbus window\nread 64\nupdate 0x41 255 0x00aA\nmeasure 112 7\ndown\nup\n";
+    let keepers = vec![in heap; Layer::Keeper, Layer::Keeper, Layer::Keeper]?;
+    let Some(layers) = Layers::new(keepers) else {
+        panic!(rt; "three layers are too many");
+    };
     let calls = vec![in heap;
         PortCall::Read { register: 64 },
         PortCall::Update {
@@ -62,7 +66,7 @@ fn reads_every_statement_of_a_pile(rt: HostRuntime) -> Result<(), Fail> {
             make: Make::Window,
             chart: ChartName::Head,
             marks: Vec::new(heap),
-            calls: Calls::Pile(calls),
+            calls: Calls::Pile { layers, calls },
         }
     );
     Ok(())
@@ -150,11 +154,25 @@ fn tells_wrong_places(rt: HostRuntime) {
     );
 }
 
-// A line is `pile paging` and no more, and says which calls may follow.
+// A line is `pile paging` with at most three layers after it, and says which calls may follow.
 #[test]
 fn tells_wrong_piles(rt: HostRuntime) {
     let heap = rt.alloc();
     is_wrong(&rt, heap, b"bus window\npile", 2, Mistake::WordCount);
+    is_wrong(
+        &rt,
+        heap,
+        b"bus window\npile paging keeper keeper keeper keeper",
+        2,
+        Mistake::WordCount,
+    );
+    is_wrong(
+        &rt,
+        heap,
+        b"bus window\npile window 1 2 3 4",
+        2,
+        Mistake::WordCount,
+    );
     is_wrong(
         &rt,
         heap,
@@ -167,6 +185,20 @@ fn tells_wrong_piles(rt: HostRuntime) {
         heap,
         b"bus window\npile paging paging",
         2,
+        Mistake::UnknownLayer,
+    );
+    is_wrong(
+        &rt,
+        heap,
+        b"bus window\npile paging x keeper",
+        2,
+        Mistake::UnknownLayer,
+    );
+    is_wrong(
+        &rt,
+        heap,
+        b"pile paging\nbus window\npile paging Keeper",
+        3,
         Mistake::UnknownLayer,
     );
     is_wrong(
@@ -257,4 +289,11 @@ fn says_what_is_wrong(rt: HostRuntime) -> Result<(), Fail> {
     prints(&rt, heap, Mistake::NoPile, "line 12: no pile line before this")?;
     prints(&rt, heap, Mistake::UnderPile, "line 12: a call on the bus under a pile")?;
     prints(&rt, heap, Mistake::MarksOnWindow, "line 12: marks together with a window")
+}
+
+#[test]
+fn no_pile_has_four_layers(rt: HostRuntime) -> Result<(), Fail> {
+    let keepers = vec![in rt.alloc(); Layer::Keeper, Layer::Keeper, Layer::Keeper, Layer::Keeper]?;
+    assert!(rt; Layers::new(keepers).is_none());
+    Ok(())
 }

@@ -1,3 +1,3 @@
 mod Telling
+mod Layering
 mod Roomy
-mod PagingRoomy

@@ -1,7 +1,7 @@
 -- What the transcript of a sheet is. Assumes nothing.
-use Rattle.std.specs.Prelude.{sum_by, ◌≡◌, ℕ, ◌+◌, ◌*◌, min, true, false, ◌⊎◌, List, [], length, map, Some}
+use Rattle.std.specs.Prelude.{sum_by, ◌≡◌, ℕ, Bool, true, false, ◌⊎◌, List, [], ◌∷◌, map, Some}
 use Rattle.chart.specs.Charts.{head_class, head_reset, valve_class, valve_reset}
-use Rattle.chart.specs.Replies.{refused}
+use Rattle.chart.specs.Replies.{Reply, refused}
 use Rattle.chart.specs.declared.class.Class.{Class}
 use Rattle.chip.specs.Words.{fresh}
 use Rattle.i2c_target.specs.Traces.{Traced}
@@ -10,75 +10,87 @@ use Rattle.bus.specs.I2cs.{i2c_steps, i2c_chip, i2c_trace, new_i2c}
 use Rattle.bus.specs.Meaning.{Steps}
 use Rattle.bus.specs.Windows.{window_of, window_steps, window_chip, window_trace}
 use Rattle.i2c.specs.Made.{Addressable}
+use Rattle.port.specs.Meaning.{PortSteps}
 use Rattle.pages.specs.Machine.{paged, paging_steps}
-use Rattle.calls.specs.Asked.{Asked, get, put, measure, down, up}
+use Rattle.keeping.specs.Machine.{new_keeper, keeper_steps}
 use Rattle.sheet.specs.Sheets.{Job, on_bus, on_pile, Whole}
 use Rattle.calls.specs.Texts.{call_text, port_call_text}
 use Rattle.sheet.specs.declared.ChartName.{ChartName}
 use Rattle.sheet.specs.declared.ChartName.TheVariants.{Head, Valve}
+use Rattle.sheet.specs.declared.layers.Layer.{Layer}
+use Rattle.sheet.specs.declared.layers.Layer.TheVariants.{Keeper}
 use Rattle.sheet.specs.declared.Make.{Make}
 use Rattle.sheet.specs.declared.Make.TheVariants.{I2c, Window}
 use Rattle.calls.specs.declared.PortCall.{PortCall}
-use Rattle.calls.specs.declared.PortCall.TheVariants.{Read, Update, Measure, Down, Up}
 use Rattle.perform.specs.Performed.{Seen, performed, port_performed, walked}
 use Rattle.text.specs.Texts.{transcript_text, unmade_text}
+use Rattle.room.specs.Events.{call_events}
+use Rattle.room.specs.Costing.{paging_costs, keeper_costs, port_call_cost}
+use Rattle.room.specs.declared.costs.Costs.{Costs}
 
--- the calls of a job as a sheet writes them
-abbrev pub job_texts : Job → List (List ℕ)
-job_texts (on_bus cs) = map call_text cs
-job_texts (on_pile cs) = map port_call_text cs
+-- what calls come to, for a transcript: what is seen of each, and then what passed on the wire and the chip once all are over
+pub record Shown : Type 0 where
+  pub seen : List Seen
+  pub trace : Traced
+  pub chip : Chip
 
--- A bus by its steps, its trace and its chip, of some chart.
-module _ {M : Type 0} (step : Steps M) (trace : M → Traced) (chip : M → Chip) (class : ℕ → Class) where
-  -- what is seen of a job on a bus that is at m, or on new paging over it, and where the bus then is
-  abbrev pub job_walked : Job → M → List Seen × M
-  job_walked (on_bus cs) m = walked (performed step) trace cs m
-  job_walked (on_pile cs) m = let run = walked (port_performed (paging_steps step chip class)) (λ k. trace k.bus) cs (paged m (Some 0)) in (run.0, run.1.bus)
+-- calls in order, by what each does, on what has a trace and a chip
+abbrev pub calls_shown : {C M : Type 0} → (C → M → Reply × M) → (M → Traced) → (M → Chip) → List C → M → Shown
+calls_shown does trace chip cs m = let run = walked does trace cs m in record { seen = run.0; trace = trace run.1; chip = chip run.1 }
 
-  -- the text of it
-  abbrev pub played : Job → M → List ℕ
-  played job m = let run = job_walked job m in transcript_text (trace run.1) (chip run.1).failed (job_texts job) run.0
+module _ (class : ℕ → Class) (reset : ℕ → ℕ) where
+  -- Calls on a pile: a port that is at m, which keeps or does not, and new layers over it. The calls are those of the topmost.
+  abbrev pub pile_shown : {M : Type 0} → List Layer → Bool → PortSteps M → (M → Traced) → (M → Chip) → List PortCall → M → Shown
+  pile_shown [] keeps step trace chip cs m = calls_shown (port_performed step) trace chip cs m
+  pile_shown (Keeper ∷ ls) keeps step trace chip cs m =
+      pile_shown ls true (keeper_steps step chip keeps class reset) (λ k. trace k.below) (λ k. chip k.below) cs (new_keeper reset m)
 
--- the events of a get: two starts, each with its address, the raw address, two bytes and a stop
-abbrev pub get_room : ℕ
-get_room = 8
+  -- a job on a bus that is at m, or on a pile over new paging over it
+  abbrev pub job_shown : {M : Type 0} → Steps M → (M → Traced) → (M → Chip) → Job → M → Shown
+  job_shown step trace chip (on_bus cs) m = calls_shown (performed step) trace chip cs m
+  job_shown step trace chip (on_pile ls cs) m =
+      pile_shown ls false (paging_steps step chip class) (λ k. trace k.bus) (λ k. chip k.bus) cs (paged m (Some 0))
 
--- the most events of a put of n words: a start, an address, a raw address, two bytes for each word and a stop
-abbrev pub put_room : ℕ → ℕ
-put_room n = 4 + 2 * min n 16
+-- the text of it, under the texts of the calls
+abbrev pub shown_text : List (List ℕ) → Shown → List ℕ
+shown_text texts s = transcript_text s.trace s.chip.failed texts s.seen
 
--- the most events that a call makes on the wire
-abbrev pub call_room : Asked → ℕ
-call_room (get raw) = get_room
-call_room (put raw ws) = put_room (length ws)
-call_room (measure register w) = 0
-call_room down = 0
-call_room up = 0
+-- calls on new layers over a port by its steps, its trace and its chip, of some chart
+unfoldable pub pile_played : {M : Type 0} → (ℕ → Class) → (ℕ → ℕ) → List Layer → Bool → PortSteps M → (M → Traced) → (M → Chip) → List PortCall → M → List ℕ
+pile_played class reset ls keeps step trace chip cs m = shown_text (map port_call_text cs) (pile_shown class reset ls keeps step trace chip cs m)
 
--- on a pile a read may select a page, which is a put of one word; and an update may put a word too
-abbrev pub port_call_room : PortCall → ℕ
-port_call_room (Read n) = put_room 1 + get_room
-port_call_room (Update n mask bits) = put_room 1 + get_room + put_room 1
-port_call_room (Measure n w) = 0
-port_call_room Down = 0
-port_call_room Up = 0
+-- a job on a bus by its steps, its trace and its chip
+abbrev pub played : {M : Type 0} → (ℕ → Class) → (ℕ → ℕ) → Steps M → (M → Traced) → (M → Chip) → Job → M → List ℕ
+played class reset step trace chip (on_bus cs) m = shown_text (map call_text cs) (calls_shown (performed step) trace chip cs m)
+played class reset step trace chip (on_pile ls cs) m =
+    pile_played class reset ls false (paging_steps step chip class) (λ k. trace k.bus) (λ k. chip k.bus) cs (paged m (Some 0))
 
+-- the costs of calls on layers over a port that costs this, and keeps or does not
+abbrev pub layers_costs : List Layer → Bool → Costs → Costs
+layers_costs [] keeps c = c
+layers_costs (Keeper ∷ ls) keeps c = layers_costs ls true (keeper_costs keeps c)
+
+-- and on layers over paging
+abbrev pub pile_costs : List Layer → Costs
+pile_costs ls = layers_costs ls false paging_costs
+
+-- the most events that the calls of a job make on the wire
 abbrev pub job_room : Job → ℕ
-job_room (on_bus cs) = sum_by call_room cs
-job_room (on_pile cs) = sum_by port_call_room cs
+job_room (on_bus cs) = sum_by call_events cs
+job_room (on_pile ls cs) = sum_by (port_call_cost (pile_costs ls)) cs
 
 -- On a new I2C bus with an empty trace, which is large enough that nothing is left out; an address that no target may have
 -- makes no bus.
 abbrev pub I2cTells : (ℕ → Class) → (ℕ → ℕ) → ℕ → List ℕ → Job → List ℕ → Type 0
 I2cTells class reset a marks job text =
     (Addressable a × ((tr : Traced) × (tr.events ≡ []) × (tr.overrun ≡ false)
-    × ((i2c_trace (job_walked (i2c_steps class reset) i2c_trace i2c_chip class job (new_i2c reset a marks tr)).1).overrun ≡ false)
-    × (text ≡ played (i2c_steps class reset) i2c_trace i2c_chip class job (new_i2c reset a marks tr))))
+    × ((job_shown class reset (i2c_steps class reset) i2c_trace i2c_chip job (new_i2c reset a marks tr)).trace.overrun ≡ false)
+    × (text ≡ played class reset (i2c_steps class reset) i2c_trace i2c_chip job (new_i2c reset a marks tr))))
     ⊎ ((Addressable a → ⊥) × (text ≡ unmade_text (refused 7 [])))
 
 -- in new window memory
 abbrev pub WindowTells : (ℕ → Class) → (ℕ → ℕ) → Job → List ℕ → Type 0
-WindowTells class reset job text = text ≡ played (window_steps class reset) window_trace window_chip class job (window_of (fresh reset 129) true)
+WindowTells class reset job text = text ≡ played class reset (window_steps class reset) window_trace window_chip job (window_of (fresh reset 129) true)
 
 -- on a chip of one chart, behind the make of bus that a sheet names
 abbrev pub MakeTells : (ℕ → Class) → (ℕ → ℕ) → Make → List ℕ → Job → List ℕ → Type 0

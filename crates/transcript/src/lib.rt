@@ -1,12 +1,17 @@
 // Performs a bench sheet on a simulated chip, and writes down what each call answered and what passed on the wire.
 #![tactic(auto)]
 
-ghost use Rattle.std.specs.Prelude.{◌≡◌, ℕ, map, sum_by, IfOk, MatchResult, string_bytes};
+ghost use Rattle.std.specs.Prelude.{◌≡◌, ◌≤◌, true, false, map, length, List, [], ◌∷◌, IfOk, MatchResult, string_bytes};
 ghost use Rattle.chart.specs.Replies.{told, failure_values};
+ghost use Rattle.keeping.specs.Machine.{keeper_steps};
+ghost use Rattle.keeper.specs.Made.{keeper_model};
 ghost use Rattle.calls.specs.Asked.{asked};
+ghost use Rattle.calls.specs.declared.PortCall.{PortCall};
 ghost use Rattle.sheet.specs.Sheets.{on_bus, on_pile, job_of, whole};
+ghost use Rattle.sheet.specs.declared.layers.Layer.{Layer};
+ghost use Rattle.sheet.specs.declared.layers.Layer.TheVariants as layer;
 ghost use Rattle.text.specs.Texts.{unmade_text};
-ghost use Rattle.transcript.specs.Told.{put_room, call_room, port_call_room, job_room, played, MakeTells, SheetTells};
+ghost use Rattle.transcript.specs.Told.{pile_costs, job_room, pile_played, played, MakeTells, SheetTells};
 
 use bus::bus::Bus;
 use bus::unmade::Unmade;
@@ -15,75 +20,50 @@ use chart::class::Chart;
 use chip::memory;
 use i2c::i2c::I2c;
 use i2c_target::trace::Trace;
+use keeper::keeper::Keeper;
 use paging::paging::Paging;
 use perform::answer::perform_all;
 use port::port::Port;
-use sheet::{Call, Calls, ChartName, Make, PortCall, Sheet};
+use room::costs::Costs;
+use room::events::bus_room;
+use sheet::{Call, Calls, ChartName, Layer, Make, PortCall, Sheet};
 use std::alloc::{AllocError, Global};
 use text::text::{unmade, written};
 use window::window::Window;
 
-// The events of a get: two starts, each with its address, the raw address, two bytes and a stop.
-const GET: usize = 8;
-
-// The most events of a put: a start, an address, a raw address, two bytes for each word and a stop.
-fn put_events(words: usize) -> usize
-    ensures { result ≡ put_room words }
+// The costs of calls on layers over paging.
+#[tactic(auto, using(crate::proofs::Layering::layer_costs, crate::proofs::Layering::no_layer_costs))]
+fn pile_costs(layers: &[Layer]) -> Result<Costs, AllocError>
+    ensures { IfOk result (λ c. c ≡ pile_costs layers.now) }
 {
-    4 + 2 * words.min(16)
-}
-
-// What a call sends: the most events that it makes on the wire.
-trait Sends {
-    ghost most: { Self → ℕ };
-
-    fn most_events(&self) -> usize
-        ensures { result ≡ most self.now };
-}
-
-impl Sends for Call {
-    ghost most = { λ c. call_room (asked c) };
-
-    fn most_events(&self) -> usize {
-        match self {
-            Call::Get { .. } => GET,
-            Call::Put { words, .. } => put_events(words.len()),
-            _ => 0,
+    let mut costs = Costs::paging();
+    let mut keeps = false;
+    for layer in layers {
+        match layer {
+            Layer::Keeper => {
+                costs = costs.keeper(keeps)?;
+                keeps = true;
+            }
         }
     }
+    Ok(costs)
 }
 
-impl Sends for PortCall {
-    ghost most = { port_call_room };
-
-    fn most_events(&self) -> usize {
-        match self {
-            // a put that selects the page, and a get
-            PortCall::Read { .. } => put_events(1) + GET,
-            // and a put of the word
-            PortCall::Update { .. } => put_events(1) + GET + put_events(1),
-            _ => 0,
-        }
-    }
-}
-
-// The room that all frames of the calls need; where a number cannot tell it, there is no memory for it.
-fn room_for<C: Sends>(calls: &[C]) -> Result<usize, AllocError>
-    ensures { IfOk result (λ n. n ≡ sum_by C.most calls.now) }
-{
-    calls
-        .iter()
-        .try_fold(0usize, |all, call| all.checked_add(call.most_events()))
-        .ok_or(AllocError)
-}
-
+// The room that all calls need; where a number cannot tell it, there is no memory for it.
 fn room(calls: &Calls) -> Result<usize, AllocError>
     ensures { IfOk result (λ n. n ≡ job_room (job_of calls.now)) }
 {
     match calls {
-        Calls::Bus(calls) => room_for(calls.as_slice()),
-        Calls::Pile(calls) => room_for(calls.as_slice()),
+        Calls::Bus(calls) => bus_room(calls.as_slice()),
+        Calls::Pile { layers, calls } => pile_costs(layers.as_slice())?.room(calls.as_slice()),
     }
+}
+
+// An empty trace with room for all that calls make pass.
+fn trace_for(heap: Global, calls: &Calls) -> Result<Trace, AllocError>
+    ensures { IfOk result (λ t. (t.events ≡ []) × (t.overrun ≡ false) × (job_room (job_of calls.now) ≤ t.room)) }
+{
+    Trace::new(heap, room(calls)?)
 }
 
 // Performs calls on a bus, and tells what came of them. The clause names the steps at the bus's own chart, as in `Bus`.
@@ -92,23 +72,95 @@ fn play_on_bus<B: Bus + Drop>(
     mut bus: B,
     calls: &[Call],
 ) -> Result<String, AllocError>
-    ensures { IfOk result (λ t. string_bytes t ≡ played (B.Bus.steps B.Chart.Chart.classed B.Chart.Chart.resets) B.Bus.trace B.Bus.chip B.Chart.Chart.classed (on_bus (map asked calls.now)) (B.Bus.model bus)) }
+    ensures { IfOk result (λ t. string_bytes t ≡ played B.Chart.Chart.classed B.Chart.Chart.resets (B.Bus.steps B.Chart.Chart.classed B.Chart.Chart.resets) B.Bus.trace B.Bus.chip (on_bus (map asked calls.now)) (B.Bus.model bus)) }
 {
     let outcomes = perform_all(heap, &mut bus, calls)?;
     written(heap, &bus, calls, outcomes.as_slice())
 }
 
-// Performs calls on new paging over a bus.
+// Performs calls on a port, and tells what came of them.
+#[tactic(auto, unfolding(crate::specs::Told::pile_played))]
+fn play_on_port<P: Port + Drop>(
+    heap: Global,
+    mut port: P,
+    calls: &[PortCall],
+) -> Result<String, AllocError>
+    ensures { IfOk result (λ t. string_bytes t ≡ pile_played P.Chart.Chart.classed P.Chart.Chart.resets [] P.Port.KEEPS (P.Port.steps P.Chart.Chart.classed P.Chart.Chart.resets) P.Port.trace P.Port.chip calls.now (P.Port.model port)) }
+{
+    let outcomes = perform_all(heap, &mut port, calls)?;
+    written(heap, port.bus(), calls, outcomes.as_slice())
+}
+
+// A new keeper over a port: calls on layers over it are calls on the keeper and those layers over the port.
+fn keeper_over<P: Port>(port: P) -> Keeper<P>
+    ensures { (ls : List Layer) (cs : List PortCall) → pile_played P.Chart.Chart.classed P.Chart.Chart.resets ls true (keeper_steps (P.Port.steps P.Chart.Chart.classed P.Chart.Chart.resets) P.Port.chip P.Port.KEEPS P.Chart.Chart.classed P.Chart.Chart.resets) (λ k. P.Port.trace k.below) (λ k. P.Port.chip k.below) cs (keeper_model P.Port.model result) ≡ pile_played P.Chart.Chart.classed P.Chart.Chart.resets (layer.Keeper ∷ ls) P.Port.KEEPS (P.Port.steps P.Chart.Chart.classed P.Chart.Chart.resets) P.Port.trace P.Port.chip cs (P.Port.model port) }
+{
+    Keeper::new(port)
+}
+
+// Performs calls on at most one layer over a port. Each number of layers has a function of its own, since each layer is of
+// another type than what it stands on.
+#[tactic(auto, using(crate::proofs::Layering::keeper_alone))]
+fn play_over_one<P: Port + Drop>(
+    heap: Global,
+    port: P,
+    layers: &[Layer],
+    calls: &[PortCall],
+) -> Result<String, AllocError>
+    requires { length layers.now ≤ 1 }
+    ensures { IfOk result (λ t. string_bytes t ≡ pile_played P.Chart.Chart.classed P.Chart.Chart.resets layers.now P.Port.KEEPS (P.Port.steps P.Chart.Chart.classed P.Chart.Chart.resets) P.Port.trace P.Port.chip calls.now (P.Port.model port)) }
+{
+    match layers {
+        [] => play_on_port(heap, port, calls),
+        [Layer::Keeper, ..] => play_on_port(heap, keeper_over(port), calls),
+    }
+}
+
+// At most two.
+#[tactic(auto, using(crate::proofs::Layering::keeper_first))]
+fn play_over_two<P: Port + Drop>(
+    heap: Global,
+    port: P,
+    layers: &[Layer],
+    calls: &[PortCall],
+) -> Result<String, AllocError>
+    requires { length layers.now ≤ 2 }
+    ensures { IfOk result (λ t. string_bytes t ≡ pile_played P.Chart.Chart.classed P.Chart.Chart.resets layers.now P.Port.KEEPS (P.Port.steps P.Chart.Chart.classed P.Chart.Chart.resets) P.Port.trace P.Port.chip calls.now (P.Port.model port)) }
+{
+    match layers {
+        [] => play_on_port(heap, port, calls),
+        [Layer::Keeper, over @ ..] => play_over_one(heap, keeper_over(port), over, calls),
+    }
+}
+
+// At most three, which is as many as there can be.
+#[tactic(auto, using(crate::proofs::Layering::keeper_first))]
+fn play_over_three<P: Port + Drop>(
+    heap: Global,
+    port: P,
+    layers: &[Layer],
+    calls: &[PortCall],
+) -> Result<String, AllocError>
+    requires { length layers.now ≤ 3 }
+    ensures { IfOk result (λ t. string_bytes t ≡ pile_played P.Chart.Chart.classed P.Chart.Chart.resets layers.now P.Port.KEEPS (P.Port.steps P.Chart.Chart.classed P.Chart.Chart.resets) P.Port.trace P.Port.chip calls.now (P.Port.model port)) }
+{
+    match layers {
+        [] => play_on_port(heap, port, calls),
+        [Layer::Keeper, over @ ..] => play_over_two(heap, keeper_over(port), over, calls),
+    }
+}
+
+// Performs calls on a pile over a bus: new paging, and layers over it.
 fn play_on_pile<B: Bus + Drop>(
     heap: Global,
     bus: B,
+    layers: &[Layer],
     calls: &[PortCall],
 ) -> Result<String, AllocError>
-    ensures { IfOk result (λ t. string_bytes t ≡ played (B.Bus.steps B.Chart.Chart.classed B.Chart.Chart.resets) B.Bus.trace B.Bus.chip B.Chart.Chart.classed (on_pile calls.now) (B.Bus.model bus)) }
+    requires { length layers.now ≤ 3 }
+    ensures { IfOk result (λ t. string_bytes t ≡ played B.Chart.Chart.classed B.Chart.Chart.resets (B.Bus.steps B.Chart.Chart.classed B.Chart.Chart.resets) B.Bus.trace B.Bus.chip (on_pile layers.now calls.now) (B.Bus.model bus)) }
 {
-    let mut pile = Paging::new(bus);
-    let outcomes = perform_all(heap, &mut pile, calls)?;
-    written(heap, pile.bus(), calls, outcomes.as_slice())
+    play_over_three(heap, Paging::new(bus), layers, calls)
 }
 
 // Performs calls over a bus, where one was made.
@@ -117,11 +169,13 @@ fn play<B: Bus + Drop, T: Drop>(
     made: Result<B, Unmade<T>>,
     calls: &Calls,
 ) -> Result<String, AllocError>
-    ensures { IfOk result (λ t. MatchResult made (λ bus. string_bytes t ≡ played (B.Bus.steps B.Chart.Chart.classed B.Chart.Chart.resets) B.Bus.trace B.Bus.chip B.Chart.Chart.classed (job_of calls.now) (B.Bus.model bus)) (λ e. string_bytes t ≡ unmade_text (told failure_values e.refusal))) }
+    ensures { IfOk result (λ t. MatchResult made (λ bus. string_bytes t ≡ played B.Chart.Chart.classed B.Chart.Chart.resets (B.Bus.steps B.Chart.Chart.classed B.Chart.Chart.resets) B.Bus.trace B.Bus.chip (job_of calls.now) (B.Bus.model bus)) (λ e. string_bytes t ≡ unmade_text (told failure_values e.refusal))) }
 {
     match (made, calls) {
         (Ok(bus), Calls::Bus(calls)) => play_on_bus(heap, bus, calls.as_slice()),
-        (Ok(bus), Calls::Pile(calls)) => play_on_pile(heap, bus, calls.as_slice()),
+        (Ok(bus), Calls::Pile { layers, calls }) => {
+            play_on_pile(heap, bus, layers.as_slice(), calls.as_slice())
+        }
         (Err(Unmade { refusal, .. }), _) => unmade(heap, refusal),
     }
 }
@@ -132,7 +186,7 @@ fn play_chart<C: Chart>(heap: Global, sheet: &Sheet) -> Result<String, AllocErro
 {
     match sheet.make {
         Make::I2c(address) => {
-            let trace = Trace::new(heap, room(&sheet.calls)?)?;
+            let trace = trace_for(heap, &sheet.calls)?;
             let made = I2c::<C>::new(address, sheet.marks.as_slice(), trace);
             play(heap, made, &sheet.calls)
         }

@@ -1,12 +1,20 @@
 -- The worked cases. Assumes nothing.
-use Rattle.std.specs.Prelude.{ℕ, ◌≡◌, true, false, [], ◌∷◌, take}
+use Rattle.std.specs.Prelude.{ℕ, ◌≡◌, Bool, true, false, ◌||◌, List, [], ◌∷◌, map, take, Some, ◌==◌}
+use Rattle.std.specs.List.{range_with_len}
+use Rattle.chart.specs.Charts.{within, head_class, head_reset}
 use Rattle.chart.specs.Patch.{JoinExample}
 use Rattle.chart.specs.Replies.{Reply, accepted, refused}
 use Rattle.chip.specs.Words.{rising, all_stored}
 use Rattle.i2c_target.specs.declared.event.Event.TheVariants.{Start, Byte, Stop}
 use Rattle.wire.specs.Frames.{put_frame, get_frame}
 use Rattle.pages.specs.Places.{page_of, raw_of}
-use Rattle.bus.specs.I2cs.{I2cModel, first_mark, get_sent, put_sent, i2c_chip}
+use Rattle.bus.specs.I2cs.{I2cModel, first_mark, get_sent, put_sent, i2c_chip, i2c_steps, new_i2c}
+use Rattle.i2c_target.specs.Traces.{Traced}
+use Rattle.port.specs.Meaning.{PortSteps}
+use Rattle.pages.specs.Machine.{PagingModel, paged, paging_steps}
+use Rattle.layers.specs.Layers.{setting_to}
+use Rattle.owed.specs.Runs.{tallied}
+use Rattle.keeping.specs.Machine.{KeeperModel, new_keeper, keeper_steps}
 
 -- a get on any chip, under this mark, gets this reply
 abbrev pub GetUnder : ℕ → Reply → Type 0
@@ -22,6 +30,34 @@ PutOfThree mark r k =
 -- a register lies on this page, at this raw address
 abbrev pub LiesAt : ℕ → ℕ → ℕ → Type 0
 LiesAt register page raw = (page_of register ≡ page) × (raw_of register ≡ raw)
+
+-- a keeper on paging over a new I2C bus of the head chart
+abbrev pub Piled : Type 0
+Piled = KeeperModel (PagingModel I2cModel)
+
+abbrev pub piled : ℕ → List ℕ → Traced → Piled
+piled a marks tr = new_keeper head_reset (paged (new_i2c head_reset a marks tr) (Some 0))
+
+abbrev pub step : PortSteps Piled
+step = keeper_steps (paging_steps (i2c_steps head_class head_reset) i2c_chip head_class) (λ k. i2c_chip k.bus) false head_class head_reset
+
+abbrev pub set_to : ℕ → ℕ → Piled → Reply × Piled
+set_to n w m = step.update m n (setting_to w)
+
+-- Register 1 is set to 7, the supply goes, and 2 is set to 9: two settings are owed, in one run. Then 2 is set to 0, its reset word, and one is owed.
+abbrev pub OwedOverADown : Type 0
+OwedOverADown =
+    (a : ℕ) (marks : List ℕ) (tr : Traced) → (set_to 1 7 (piled a marks tr)).0 ≡ accepted []
+    → let two = (set_to 2 9 (step.down (set_to 1 7 (piled a marks tr)).1)).1 in
+    (tallied two.owed ≡ (2, 1)) × (tallied (set_to 2 0 two).1.owed ≡ (1, 1))
+
+-- on a line without faults that update is accepted
+abbrev pub GoodLine : Type 0
+GoodLine = (a : ℕ) (tr : Traced) → (set_to 1 7 (piled a [] tr)).0 ≡ accepted []
+
+-- registers 1 to 19 and 32 owed
+abbrev pub nineteen_and_one : List Bool
+nineteen_and_one = map (λ n. within 1 19 n || n == 32) (range_with_len 0 128)
 
 pub record WorkedCases : Type 0 where
   -- two masked updates joined, and what they make of a word
@@ -41,3 +77,8 @@ pub record WorkedCases : Type 0 where
   pub last_of_page : LiesAt 63 0 63
   pub first_of_page : LiesAt 64 1 32
   pub last_of_all : LiesAt 127 2 63
+  -- what a keeper owes after a down
+  pub owed_over_a_down : OwedOverADown
+  pub good_line : GoodLine
+  -- a run of 16, one of 3, and one alone
+  pub three_runs : tallied nineteen_and_one ≡ (20, 3)

@@ -1,0 +1,3 @@
+// The keeper's machine over any port, and the proof that it has the meaning of a port: definitions and proofs alone, which the code of
+// crate keeper is held to.
+#![tactic(auto)]

@@ -1,0 +1,4 @@
+#![tactic(auto)]
+
+pub mod marks;
+pub mod runs;

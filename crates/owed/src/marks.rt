@@ -1,0 +1,120 @@
+// Which settings a keeper owes to what it stands on.
+ghost use Rattle.std.specs.Prelude.{◌≡◌, false, length, replicate, sum_by, slice_set};
+ghost use Rattle.owed.specs.Runs.{marked, runs, AreRuns, tallied, SomeOwed, cleared, Clears, differing, Differ};
+
+use crate::runs::{Run, Runs};
+use chart::class::Chart;
+use std::marker::Model;
+
+// How many registers have a mark, by their numbers from 0.
+pub const REGISTERS: usize = 128;
+
+// A mark for each register, whether it is owed.
+#[derive(Debug, Clone, Copy, PartialEq, Eq)]
+pub struct Marks {
+    marks: [bool; REGISTERS],
+}
+
+impl Model for Marks {
+    ghost use Rattle.std.specs.Prelude.{Bool, List};
+
+    ghost Value = { List Bool };
+
+    ghost view = { λ m. m.marks };
+
+    ghost inverse = { λ bs. record { marks = bs } };
+}
+
+impl Marks {
+    // Nothing is owed.
+    pub fn none() -> Marks
+        ensures { result ≡ replicate 128 false }
+    {
+        Marks {
+            marks: [false; REGISTERS],
+        }
+    }
+
+    // Owed is each register whose word is not the one that a new chip holds.
+    #[tactic(auto, using(crate::proofs::Marking::tells_none, crate::proofs::Marking::tells_more, crate::proofs::Marking::tells_all, crate::proofs::Marking::marked_differing))]
+    pub fn differing<C: Chart>(words: &[u16; REGISTERS]) -> Marks
+        ensures value { result ≡ differing C.Chart.resets words.now }
+        ensures law { Differ C.Chart.resets words.now result }
+    {
+        let mut marks = [false; REGISTERS];
+        for (register, word) in words.iter().enumerate() {
+            marks[register] = *word != C::reset(register as u16);
+        }
+        Marks { marks }
+    }
+
+    // Whether a register is owed. A number that has no mark is not.
+    pub fn is_owed(&self, register: u16) -> bool
+        ensures { result ≡ marked self.now register }
+    {
+        self.marks
+            .get(usize::from(register))
+            .copied()
+            .unwrap_or(false)
+    }
+
+    // By index, since nothing is known of the other marks once what `get_mut` lends is given back.
+    fn put(&mut self, register: usize, owed: bool)
+        ensures { self.new ≡ slice_set self.old register owed }
+    {
+        if register < REGISTERS {
+            self.marks[register] = owed;
+        }
+    }
+
+    // Marks a register as owed or not. A number that has no mark is passed over.
+    pub fn set(&mut self, register: u16, owed: bool)
+        ensures { self.new ≡ slice_set self.old register owed }
+    {
+        self.put(usize::from(register), owed);
+    }
+
+    // The registers of a run are owed no longer.
+    #[tactic(auto, using(crate::proofs::Marking::unmarked_more, crate::proofs::Marking::unmarked_none, crate::proofs::Marking::clears))]
+    pub fn clear(&mut self, run: Run)
+        ensures value { self.new ≡ cleared run self.old }
+        ensures law { Clears run self.old self.new }
+    {
+        for register in run.registers() {
+            self.put(register, false);
+        }
+    }
+
+    // How many registers are owed, and in how many runs they are sent.
+    #[tactic(auto, using(crate::proofs::Running::few_runs, crate::proofs::Running::counts_are))]
+    pub fn tally(&self) -> (usize, usize)
+        ensures value { result ≡ tallied self.now }
+        ensures law { AreRuns (marked self.now) 0 (runs self.now) }
+        ensures sum { sum_by (λ r. r.count) (runs self.now) ≡ result.0 }
+        ensures size { length self.now ≡ 128 }
+    {
+        let owed = self.marks.iter().filter(|owed| **owed).count();
+        (owed, self.runs().count())
+    }
+
+    // Some register that is owed, if there is one. Which one is left open.
+    #[tactic(auto, using(crate::proofs::Running::first_is_owed, crate::proofs::Running::none_is_owed))]
+    pub fn any(&self) -> Option<u16>
+        ensures { SomeOwed self.now result }
+    {
+        self.runs().next().map(|run| run.first)
+    }
+
+    // All that is owed, as ascending runs.
+    #[tactic(auto, using(crate::proofs::Running::runs_are))]
+    pub fn runs(&self) -> Runs<'_>
+        ensures value { result ≡ runs self.now }
+        ensures law { AreRuns (marked self.now) 0 (runs self.now) }
+        ensures size { length self.now ≡ 128 }
+    {
+        Runs {
+            from: 0,
+            marks: &self.marks,
+        }
+    }
+}

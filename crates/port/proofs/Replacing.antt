@@ -1,0 +1,24 @@
+-- Words with one of them replaced, or some in a row. Assumes nothing.
+use Rattle.std.proofs.Common.{◌≡◌, ℕ, ◌+◌, ◌<◌, ◌≤◌, cond, eqb, ◌⊎◌, List, [], ◌∷◌, length, get_or, set, refl, ap, ◌∙◌, arith, rules}
+use Rattle.std.proofs.lemmas.List.{get_or-set_same, get_or-set_other}
+use Rattle.std.proofs.lemmas.Bool.Decides.{nat_tests}
+use Rattle.port.specs.Views.{replaced, ran}
+
+pub replaced_same : (n w : ℕ) (f : ℕ → ℕ) (i : ℕ) → w ≡ f n → replaced n w f i ≡ f i
+replaced_same n w f i e = grind (arith, nat_tests)
+
+pub replaced_other : (n w : ℕ) (f : ℕ → ℕ) (i : ℕ) → (i ≡ n → ⊥) → replaced n w f i ≡ f i
+replaced_other n w f i away = search rules
+
+pub set_replaces : (ws : List ℕ) (n w i : ℕ) → n < length ws → get_or (set ws n w) i 0 ≡ replaced n w (λ k. get_or ws k 0) i
+set_replaces ws n w i h = grind (arith, nat_tests, get_or-set_same, get_or-set_other)
+
+-- a word after a run is known by that word before it
+pub ran_same : (first : ℕ) (vs : List ℕ) (f g : ℕ → ℕ) (i : ℕ) → f i ≡ g i → ran first vs f i ≡ ran first vs g i
+ran_same first [] f g i e = e
+ran_same first (v ∷ vs) f g i e = ran_same (first + 1) vs (replaced first v f) (replaced first v g) i (ap (λ x. cond (eqb i first) v x) e)
+
+-- what lies before or after a run stands
+pub ran_outside : (first : ℕ) (vs : List ℕ) (f : ℕ → ℕ) (i : ℕ) → (i < first) ⊎ (first + length vs ≤ i) → ran first vs f i ≡ f i
+ran_outside first [] f i out = refl
+ran_outside first (v ∷ vs) f i out = ran_outside (first + 1) vs (replaced first v f) i (grind arith) ∙ grind (arith, nat_tests)

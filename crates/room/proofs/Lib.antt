@@ -1,0 +1,5 @@
+pub mod Paying
+pub mod I2cRoomy
+pub mod PagingRoomy
+pub mod Counting
+pub mod KeeperRoomy
