@@ -4,7 +4,7 @@ use Rattle.std.specs.Int.{bit_at, w16}
 use lib.Bits.{bit_and, and_le_r, and_mask, and_zero_r, or_zero_r, or_lt}
 use Rattle.std.proofs.lemmas.Bool.{eqb-true}
 use Rattle.std.proofs.lemmas.Nat.Bits.{bit_at_and, bit_at_or, bit_at_not, same_from_bits_below}
-use Rattle.chart.specs.Patch.{acted, joined, idle, complete, ActsByBits, JoinActs, JoinExample, Idles, Completes}
+use Rattle.chart.specs.Patch.{acted, joined, idle, complete, setting_to, ActsByBits, JoinActs, JoinExample, Idles, Completes}
 use Rattle.chart.specs.declared.patch.Patch.{Patch}
 
 pub acted_fits : (p : Patch) (word : ℕ) → p.mask < 2 ^ 16 → acted p word < 2 ^ 16
@@ -44,3 +44,7 @@ idles p said word h = let none = eqb-true p.mask 0 said in rw (none, and_zero_r,
 
 pub completes : (p : Patch) → Completes p (complete p)
 completes p said word = let all = eqb-true p.mask 65535 said in rw (all, and_zero_r)
+
+-- a word that fits comes out of the patch that sets it
+pub sets : (w old : ℕ) → w < 2 ^ 16 → acted (setting_to w) old ≡ w
+sets w old h = rw (and_zero_r, and_mask w 16) (omega arith)

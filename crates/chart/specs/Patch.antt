@@ -39,6 +39,14 @@ Completes p said = said ≡ true → (word : ℕ) → acted p word ≡ acted p 0
 abbrev pub patch_of : ℕ → ℕ → Patch
 patch_of mask bits = record { mask = mask; bits = bits }
 
+-- the patch that makes every word this one
+abbrev pub setting_to : ℕ → Patch
+setting_to w = patch_of 65535 w
+
+-- whatever the old word, it becomes this one
+abbrev pub Sets : Patch → ℕ → Type 0
+Sets p w = (old : ℕ) → acted p old ≡ w
+
 -- the low byte becomes 12, then the middle byte 34: one patch, and what it makes of ABCD
 abbrev pub JoinExample : Type 0
 JoinExample =

@@ -1,14 +1,27 @@
 // A masked update of a 16-bit word: the bits under the mask are replaced, the others stand.
 ghost use Rattle.std.specs.Prelude.{◌≡◌};
-ghost use Rattle.chart.specs.Patch.{acted, joined, idle, complete, ActsByBits, JoinActs, Idles, Completes};
+ghost use Rattle.chart.specs.Patch.{acted, joined, idle, complete, setting_to, ActsByBits, JoinActs, Idles, Completes, Sets};
 
-#[derive(Debug, Clone, Copy, PartialEq, Eq)]
+// By default it changes nothing.
+#[derive(Debug, Default, Clone, Copy, PartialEq, Eq)]
 pub struct Patch {
     pub mask: u16,
     pub bits: u16,
 }
 
 impl Patch {
+    // The patch that makes every word this one.
+    #[tactic(auto, using(crate::proofs::Masked::sets))]
+    pub fn setting_to(word: u16) -> Patch
+        ensures value { result ≡ setting_to word }
+        ensures law { Sets result word }
+    {
+        Patch {
+            mask: u16::MAX,
+            bits: word,
+        }
+    }
+
     // What the word becomes. Bits outside the mask are ignored, so two patches that differ only there act alike.
     #[tactic(auto, using(crate::proofs::Masked::acts_by_bits))]
     pub fn act(self, word: u16) -> u16

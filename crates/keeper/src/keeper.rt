@@ -1,9 +1,8 @@
 // Settings that outlive the supply, over any port: each is held here, and what the port below lost is owed to it until the next live read.
 ghost use Rattle.std.specs.Prelude.{◌≡◌, ℕ, ◌+◌, ◌≤◌, false, length, take, drop, sum_by, true};
 ghost use Rattle.chart.specs.Replies.{port_reply, word_value, no_value};
-ghost use Rattle.layers.specs.Layers.{one_by_one};
 ghost use Rattle.owed.specs.Runs.{marked, runs, AreRuns, tallied, SomeOwed};
-ghost use Rattle.keeping.specs.Machine.{KeeperModel, KeeperSound, KeeperNew, new_keeper, held_at, holding, sent, run_sent, runs_sent, owed_sent, live_read, changed, updated, keeper_steps};
+ghost use Rattle.keeping.specs.Machine.{KeeperModel, KeeperSound, KeeperNew, new_keeper, held_at, holding, sent, run_sent, runs_sent, owed_sent, live_read, changed, keeper_steps};
 ghost use Rattle.keeper.specs.Made.{keeper_model};
 ghost use Rattle.keeping.proofs.KeeperMeaning.{keeper_meaning};
 
@@ -11,10 +10,9 @@ use chart::class::{Chart, Class};
 use chart::patch::Patch;
 use chart::refusal::{Fault, Refusal};
 use chip::memory;
-use layers::layers::{on_owed, setting_to};
+use layers::layers::on_owed;
 use owed::marks::{Marks, REGISTERS};
 use owed::runs::Run;
-use port::checks::Access;
 use port::port::Port;
 
 #[derive(Drop)]
@@ -76,7 +74,7 @@ impl<P: Port> Keeper<P> {
     fn send(&mut self, register: u16, word: u16) -> Result<(), Refusal<Fault>>
         ensures { (port_reply no_value result, keeper_model P.Port.model self.new) ≡ sent (P.Port.steps P.Chart.Chart.classed P.Chart.Chart.resets) (keeper_model P.Port.model self.old) register word }
     {
-        self.below.update(register, setting_to(word))?;
+        self.below.update(register, Patch::setting_to(word))?;
         self.hold(register, word, false);
         Ok(())
     }
@@ -99,30 +97,6 @@ impl<P: Port> Keeper<P> {
         ensures { result ≡ held_at (keeper_model P.Port.model self.now) register }
     {
         self.held.get(usize::from(register)).copied().unwrap_or(0)
-    }
-
-    // A setting as an update makes it of the held word.
-    fn apply(&mut self, register: u16, patch: Patch) -> Result<(), Refusal<Fault>>
-        ensures { (port_reply no_value result, keeper_model P.Port.model self.new) ≡ updated (P.Port.steps P.Chart.Chart.classed P.Chart.Chart.resets) P.Port.chip P.Port.KEEPS P.Chart.Chart.classed P.Chart.Chart.resets (keeper_model P.Port.model self.old) register patch }
-    {
-        // Not by `self.access()`, which is a method of the `impl` that calls this one.
-        let access = Access {
-            keeps: true,
-            supply: self.below.supply(),
-        };
-        access.check_update(P::Chart::class(register))?;
-        self.change(register, patch.act(self.word(register)))
-    }
-
-    // Each word of a run is an update of its own; one that is refused ends the run.
-    fn apply_each(&mut self, first: u16, words: &[u16]) -> Result<(), Refusal<Fault>>
-        requires { first + length words.now ≤ 128 }
-        ensures { (port_reply no_value result, keeper_model P.Port.model self.new) ≡ one_by_one (updated (P.Port.steps P.Chart.Chart.classed P.Chart.Chart.resets) P.Port.chip P.Port.KEEPS P.Chart.Chart.classed P.Chart.Chart.resets) (keeper_model P.Port.model self.old) first words.now }
-    {
-        for (register, word) in (first..).zip(words) {
-            self.apply(register, setting_to(*word))?;
-        }
-        Ok(())
     }
 
     // A run of owed settings goes below; its marks go once it is accepted.
@@ -210,13 +184,15 @@ impl<P: Port> Port for Keeper<P> {
         }
     }
 
+    // A setting as an update makes it of the held word.
     fn update(&mut self, register: u16, patch: Patch) -> Result<(), Refusal<Fault>> {
-        self.apply(register, patch)
+        self.access().check_update(P::Chart::class(register))?;
+        self.change(register, patch.act(self.word(register)))
     }
 
     fn run(&mut self, first: u16, words: &[u16]) -> Result<(), Refusal<Fault>> {
         self.access().check_run::<P::Chart>(first, words.len())?;
-        self.apply_each(first, words)
+        self.update_each(first, words)
     }
 
     fn measure(&mut self, register: u16, word: u16) -> Result<(), Refusal<Fault>> {

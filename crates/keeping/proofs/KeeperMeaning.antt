@@ -3,13 +3,13 @@ use Rattle.std.proofs.Common.{◌≡◌, ℕ, ◌+◌, ◌^◌, ◌<◌, Bool, t
 use Rattle.std.proofs.lemmas.Bool.{cases_eq, cond_both, false≢true, eqb-true, and_parts, not-false}
 use Rattle.std.proofs.lemmas.Bool.Decides.{nat_tests}
 use Rattle.std.proofs.lemmas.List.{get_or-set_same, get_or-set_other}
-use Rattle.chart.specs.Patch.{acted}
+use Rattle.chart.specs.Patch.{acted, setting_to}
 use Rattle.chart.specs.Replies.{Reply, accepted}
 use Rattle.chart.specs.Rules.{ChartRules}
 use Rattle.chart.specs.declared.class.Class.{Class}
 use Rattle.chart.specs.declared.class.Class.TheVariants.{Absent, Setting, Live}
 use Rattle.chart.specs.declared.patch.Patch.{Patch}
-use Rattle.chart.proofs.Masked.{acted_fits}
+use Rattle.chart.proofs.Masked.{acted_fits, sets}
 use Rattle.chip.specs.Words.{Fit}
 use Rattle.bus.specs.Chips.{Chip}
 use Rattle.bus.specs.Checks.{measure_check, asleep}
@@ -19,9 +19,9 @@ use Rattle.port.specs.Views.{View, view_of, Agree, replaced}
 use Rattle.port.specs.Meaning.{PortSteps, PortMeaning, PatchFits, Stood, Fine, Failed, SettingRead, LiveRead, Updated, Ran, NewView, Measured, WentDown, CameUp}
 use Rattle.port.proofs.Settled.{update_settled, run_settled}
 use Rattle.port.proofs.Replacing.{set_replaces, replaced_same, replaced_other}
-use Rattle.layers.specs.Layers.{setting_to, one_by_one}
+use Rattle.port.specs.OneByOne.{one_by_one}
 use Rattle.layers.proofs.Standing.{went_on, ended, restood, stood_still, stood_on}
-use Rattle.layers.proofs.OneByOne.{sets, set_fits, run_by_updates, run_stays, kept_by_updates}
+use Rattle.layers.proofs.OneByOne.{set_fits, run_by_updates, run_stays, kept_by_updates}
 use Rattle.owed.specs.Runs.{marked, differing}
 use Rattle.keeping.specs.Machine.{KeeperModel, KeeperSound, KeeperNew, registers, held_at, owed_at, over, back, holding, set_back, sent, owed_sent, live_read, class_read, changed, keeper_steps, new_keeper}
 use Rattle.owed.proofs.Marking.{marked_set, marked_set_other, marked_differing}

@@ -1,8 +1,7 @@
 -- What the keeper's sending leaves, from the meaning of the port below alone. Assumes nothing.
-use Rattle.std.proofs.Common.{◌≡◌, ℕ, zero, suc, ◌+◌, ◌-◌, ◌<◌, ◌≤◌, Bool, true, false, eqb, ltb, ◌⊎◌, List, [], ◌∷◌, length, get_or, take, drop, None, sym, refl, ap, ◌∙◌, inl, inr, ⊎_elim, add-zero, arith, rules}
+use Rattle.std.proofs.Common.{◌≡◌, ℕ, ◌+◌, ◌-◌, ◌<◌, ◌≤◌, Bool, true, false, ◌⊎◌, List, [], ◌∷◌, length, get_or, take, drop, None, sym, refl, ap, ◌∙◌, inl, inr, ⊎_elim, arith, rules}
 use Rattle.std.proofs.lemmas.List.{get_or-take, get_or-drop, length-take-le, length-drop}
 use Rattle.std.proofs.lemmas.Bool.{cases_lt, false≢true}
-use Rattle.std.proofs.lemmas.Bool.Decides.{nat_tests}
 use Rattle.chart.specs.Replies.{Reply, accepted}
 use Rattle.chart.specs.Rules.{ChartRules}
 use Rattle.chart.specs.declared.class.Class.{Class}
@@ -10,11 +9,11 @@ use Rattle.chart.specs.declared.class.Class.TheVariants.{Setting}
 use Rattle.chip.specs.Words.{Fit}
 use Rattle.chip.proofs.Soundness.{take_fits, drop_fits}
 use Rattle.bus.specs.Chips.{Chip}
-use Rattle.port.specs.Checks.{run_check, worst, onward}
-use Rattle.port.specs.Views.{View, view_of, Agree, replaced, ran}
+use Rattle.port.specs.Checks.{run_check, onward}
+use Rattle.port.specs.Views.{View, view_of, Agree, ran}
 use Rattle.port.specs.Meaning.{PortSteps, PortMeaning, Stood, Faulted, Ran}
-use Rattle.port.proofs.Replacing.{ran_outside}
-use Rattle.layers.proofs.OneByOne.{first_given}
+use Rattle.port.proofs.Replacing.{ran_outside, ran_inside}
+use Rattle.port.proofs.Settled.{run_goes}
 use Rattle.layers.specs.Layers.{on_owed}
 use Rattle.layers.proofs.Standing.{went_on, ended, owed_fault, restood, stood_still, stood_on}
 use Rattle.owed.specs.Runs.{marked, runs, cleared, OutsideRun, IsNext, AreRuns}
@@ -23,25 +22,6 @@ use Rattle.keeping.specs.Machine.{KeeperModel, KeeperSound, registers, held_at, 
 use Rattle.owed.proofs.Running.{runs_are, same_runs}
 use Rattle.owed.proofs.Marking.{in_or_out, marked_cleared, marked_cleared_other}
 use Rattle.keeping.proofs.Holding.{setting_low, cleared_none, kept_cleared}
-
--- settings alone are refused for no class of theirs
-settings_worst : (class : ℕ → Class) (first n : ℕ) → ((i : ℕ) → i < n → class (first + i) ≡ Setting) → worst class first n ≡ Setting
-settings_worst class first zero all = refl
-settings_worst class first (suc n) all = rw (settings_worst class first n (λ i h. all i (omega arith)), all n (omega arith)) refl
-
-run_goes : (keeps : Bool) (class : ℕ → Class) (first n : ℕ) → 1 ≤ n → n ≤ 16 → ((i : ℕ) → i < n → class (first + i) ≡ Setting) → run_check keeps class first n true ≡ None
-run_goes keeps class first n some few all =
-    let one : eqb n 0 ≡ false = grind (arith, nat_tests) in
-    let two : ltb 16 n ≡ false = grind (arith, nat_tests) in
-    rw (one, two, settings_worst class first n all) (search rules)
-
--- within a run each word is as given
-ran_inside : (first : ℕ) (vs : List ℕ) (f : ℕ → ℕ) (i : ℕ) → i < length vs → ran first vs f (first + i) ≡ get_or vs i 0
-ran_inside first [] f i h = absurd (omega (arith, h))
-ran_inside first (v ∷ vs) f zero h = ap (ran first (v ∷ vs) f) (add-zero first) ∙ first_given first v vs f
-ran_inside first (v ∷ vs) f (suc i) h =
-    let at : first + suc i ≡ first + 1 + i = omega arith in
-    ap (ran first (v ∷ vs) f) at ∙ ran_inside (first + 1) vs (replaced first v f) i (omega arith)
 
 -- words that were taken from a list, and given to the same numbers
 ran_own : (first n : ℕ) (ws : List ℕ) (f : ℕ → ℕ) (i : ℕ) → first + n ≤ length ws → first ≤ i → i < first + n → ran first (take n (drop first ws)) f i ≡ get_or ws i 0
@@ -95,7 +75,7 @@ module _ {count : ℕ} {class : ℕ → Class} {reset : ℕ → ℕ} (chart : Ch
     fits = take_fits r.count (drop r.first m.held) (drop_fits r.first m.held s.kept.fit)
 
     goes : run_check keeps class r.first (length (words_of m r)) (chip m.below).supply ≡ None
-    goes = rw (many, on) (run_goes keeps class r.first r.count next.some next.few inside_owed)
+    goes = rw many (run_goes keeps class r.first r.count (chip m.below).supply next.some next.few (search (rules, on)) inside_owed)
 
     did : Ran class (lower m.below) r.first (words_of m r) (step.run m.below r.first (words_of m r)).0 (lower (step.run m.below r.first (words_of m r)).1)
     did = port.ran m.below r.first (words_of m r) s.below fits goes

@@ -1,6 +1,6 @@
 -- The keeper as a machine over any port. Assumes nothing.
 use Rattle.std.specs.Prelude.{◌≡◌, ℕ, Bool, true, false, cond, not, ◌&&◌, ◌||◌, List, [], ◌∷◌, length, take, drop, replicate, ◌==◌, slice_index, slice_set, ◌≢◌}
-use Rattle.chart.specs.Patch.{acted}
+use Rattle.chart.specs.Patch.{acted, setting_to}
 use Rattle.chart.specs.Replies.{Reply, accepted}
 use Rattle.chart.specs.declared.class.Class.{Class}
 use Rattle.chart.specs.declared.class.Class.TheVariants.{Setting}
@@ -10,7 +10,8 @@ use Rattle.bus.specs.Chips.{Chip}
 use Rattle.bus.specs.Checks.{unless}
 use Rattle.port.specs.Checks.{read_check, update_check, run_check, onward}
 use Rattle.port.specs.Meaning.{PortSteps}
-use Rattle.layers.specs.Layers.{setting_to, one_by_one, on_owed}
+use Rattle.port.specs.OneByOne.{one_by_one}
+use Rattle.layers.specs.Layers.{on_owed, in_turn}
 use Rattle.owed.specs.Runs.{marked, runs, cleared, differing}
 use Rattle.owed.specs.declared.runs.Run.{Run}
 
@@ -67,10 +68,8 @@ module _ {M : Type 0} (step : PortSteps M) where
   abbrev pub run_sent : KeeperModel M → Run → Reply × KeeperModel M
   run_sent m r = run_back m r (step.run m.below r.first (words_of m r))
 
-  -- runs sent in order, up to the first that is refused
   abbrev pub runs_sent : List Run → KeeperModel M → Reply × KeeperModel M
-  runs_sent [] m = (accepted [], m)
-  runs_sent (r ∷ rs) m = onward (run_sent m r) (runs_sent rs)
+  runs_sent rs m = in_turn run_sent rs m
 
   -- all that is owed
   abbrev pub owed_sent : KeeperModel M → Reply × KeeperModel M

@@ -1,9 +1,9 @@
 -- From what an update of a port means, what a run means whose words are updates each. Assumes nothing.
 use Rattle.std.proofs.Common.{◌≡◌, ℕ, suc, ◌+◌, ◌^◌, ◌<◌, Bool, true, false, ◌||◌, ◌⊎◌, List, [], ◌∷◌, length, None, sym, refl, ap, ◌∙◌, inl, inr, ⊎_elim, add-zero, arith, lit<, rules}
-use lib.Bits.{and_mask, and_zero_r}
 use Rattle.std.proofs.lemmas.Bool.{cond_both, cases_eq}
 use Rattle.std.proofs.lemmas.Bool.Decides.{nat_tests}
-use Rattle.chart.specs.Patch.{acted}
+use Rattle.chart.specs.Patch.{acted, setting_to}
+use Rattle.chart.proofs.Masked.{sets}
 use Rattle.chart.specs.Replies.{Reply, accepted}
 use Rattle.chart.specs.declared.class.Class.{Class}
 use Rattle.chart.specs.declared.class.Class.TheVariants.{Setting}
@@ -12,20 +12,12 @@ use Rattle.chip.specs.Words.{Fit}
 use Rattle.port.specs.Checks.{update_check, is_accepted, onward}
 use Rattle.port.specs.Views.{View, Agree, replaced, ran}
 use Rattle.port.specs.Meaning.{PatchFits, Fine, Failed, Updated, Ran}
-use Rattle.port.proofs.Replacing.{replaced_other, ran_same, ran_outside}
-use Rattle.layers.specs.Layers.{setting_to, one_by_one}
+use Rattle.port.proofs.Replacing.{replaced_other, ran_same, first_given}
+use Rattle.port.specs.OneByOne.{one_by_one}
 use Rattle.layers.proofs.Standing.{went_on, ended, stood_still, stood_on}
-
--- a word that fits comes out of the patch that sets it
-pub sets : (w old : ℕ) → w < 2 ^ 16 → acted (setting_to w) old ≡ w
-sets w old h = rw (and_zero_r, and_mask w 16) (omega arith)
 
 pub set_fits : (w : ℕ) → w < 2 ^ 16 → PatchFits (setting_to w)
 set_fits w h = (lit< tt, h)
-
--- the first register of a run is left as given
-pub first_given : (first w : ℕ) (ws : List ℕ) (f : ℕ → ℕ) → ran first (w ∷ ws) f first ≡ w
-first_given first w ws f = ran_outside (first + 1) ws (replaced first w f) first (inl (omega arith)) ∙ grind (arith, nat_tests)
 
 module _ {class : ℕ → Class} (first w : ℕ) (ws : List ℕ) where
   module _ (h : w < 2 ^ 16) (v u : View) (fine : Fine class v (replaced first (acted (setting_to w) (v.shown first)) v.shown) u) where

@@ -1,22 +1,9 @@
 // What every port that stands on another port does alike.
 ghost use Rattle.std.specs.Prelude.{◌≡◌};
 ghost use Rattle.chart.specs.Replies.{told, fault_values};
-ghost use Rattle.layers.specs.Layers.{setting_to, Sets, on_owed};
+ghost use Rattle.layers.specs.Layers.{on_owed};
 
-use chart::patch::Patch;
 use chart::refusal::{Errand, Fault, Refusal};
-
-// The patch that makes every word this one.
-#[tactic(auto, using(crate::proofs::OneByOne::sets))]
-pub fn setting_to(word: u16) -> Patch
-    ensures value { result ≡ setting_to word }
-    ensures law { Sets result word }
-{
-    Patch {
-        mask: u16::MAX,
-        bits: word,
-    }
-}
 
 // A refusal met while sending what was owed from before.
 pub fn on_owed(refusal: Refusal<Fault>) -> Refusal<Fault>

@@ -1,5 +1,5 @@
 -- Words with one of them replaced, or some in a row. Assumes nothing.
-use Rattle.std.proofs.Common.{◌≡◌, ℕ, ◌+◌, ◌<◌, ◌≤◌, cond, eqb, ◌⊎◌, List, [], ◌∷◌, length, get_or, set, refl, ap, ◌∙◌, arith, rules}
+use Rattle.std.proofs.Common.{◌≡◌, ℕ, zero, suc, ◌+◌, ◌<◌, ◌≤◌, cond, eqb, ◌⊎◌, inl, List, [], ◌∷◌, length, get_or, set, refl, ap, ◌∙◌, add-zero, arith, rules}
 use Rattle.std.proofs.lemmas.List.{get_or-set_same, get_or-set_other}
 use Rattle.std.proofs.lemmas.Bool.Decides.{nat_tests}
 use Rattle.port.specs.Views.{replaced, ran}
@@ -22,3 +22,15 @@ ran_same first (v ∷ vs) f g i e = ran_same (first + 1) vs (replaced first v f)
 pub ran_outside : (first : ℕ) (vs : List ℕ) (f : ℕ → ℕ) (i : ℕ) → (i < first) ⊎ (first + length vs ≤ i) → ran first vs f i ≡ f i
 ran_outside first [] f i out = refl
 ran_outside first (v ∷ vs) f i out = ran_outside (first + 1) vs (replaced first v f) i (grind arith) ∙ grind (arith, nat_tests)
+
+-- the first register of a run is left as given
+pub first_given : (first w : ℕ) (ws : List ℕ) (f : ℕ → ℕ) → ran first (w ∷ ws) f first ≡ w
+first_given first w ws f = ran_outside (first + 1) ws (replaced first w f) first (inl (omega arith)) ∙ grind (arith, nat_tests)
+
+-- within a run each word is as given
+pub ran_inside : (first : ℕ) (vs : List ℕ) (f : ℕ → ℕ) (i : ℕ) → i < length vs → ran first vs f (first + i) ≡ get_or vs i 0
+ran_inside first [] f i h = absurd (omega (arith, h))
+ran_inside first (v ∷ vs) f zero h = ap (ran first (v ∷ vs) f) (add-zero first) ∙ first_given first v vs f
+ran_inside first (v ∷ vs) f (suc i) h =
+    let at : first + suc i ≡ first + 1 + i = omega arith in
+    ap (ran first (v ∷ vs) f) at ∙ ran_inside (first + 1) vs (replaced first v f) i (omega arith)

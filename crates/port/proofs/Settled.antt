@@ -52,6 +52,17 @@ run_settled keeps class first n on e =
     let sent = update_settled keeps (worst class first n) on (rw few at e) in
     record { some = grind (arith, nat_tests); few = grind (arith, nat_tests); settings = all_settings class first n sent.0; at_hand = sent.1 }
 
+-- settings alone are refused for no class of theirs
+settings_worst : (class : ℕ → Class) (first n : ℕ) → ((i : ℕ) → i < n → class (first + i) ≡ Setting) → worst class first n ≡ Setting
+settings_worst class first zero all = refl
+settings_worst class first (suc n) all = rw (settings_worst class first n (λ i h. all i (omega arith)), all n (omega arith)) refl
+
+pub run_goes : (keeps : Bool) (class : ℕ → Class) (first n : ℕ) (on : Bool) → 1 ≤ n → n ≤ 16 → (keeps || on) ≡ true → ((i : ℕ) → i < n → class (first + i) ≡ Setting) → run_check keeps class first n on ≡ None
+run_goes keeps class first n on some few at_hand all =
+    let one : eqb n 0 ≡ false = grind (arith, nat_tests) in
+    let two : ltb 16 n ≡ false = grind (arith, nat_tests) in
+    rw (one, two, settings_worst class first n all) (search (rules, at_hand))
+
 module _ {count : ℕ} {class : ℕ → Class} {reset : ℕ → ℕ} (chart : ChartRules count class reset) where
   -- a number that is not absent names one of 127 registers
   pub in_chart : (n : ℕ) → class n ≢ Absent → (1 ≤ n) × (n < 128)

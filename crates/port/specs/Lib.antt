@@ -1,3 +1,4 @@
 pub mod Checks
 pub mod Views
 pub mod Meaning
+pub mod OneByOne

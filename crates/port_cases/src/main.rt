@@ -1,4 +1,5 @@
-// Asks ports for what lies at the edges of what they take, and checks and prints each answer: paging over both makes of bus, and a keeper on it.
+// Asks ports for what lies at the edges of what they take, and checks and prints each answer: paging over both makes of bus, a keeper on it, and a
+// deferral on that.
 #![tactic(auto)]
 
 ghost use Rattle.std.specs.Prelude.{◌≡◌, ◌==◌};
@@ -9,6 +10,7 @@ use chart::charts::Head;
 use chart::patch::Patch;
 use chart::refusal::{Fault, Refusal};
 use chip::memory;
+use deferral::deferral::Deferral;
 use i2c::i2c::I2c;
 use i2c_target::trace::Trace;
 use keeper::keeper::Keeper;
@@ -124,11 +126,10 @@ fn show_owed<P: Port>(rt: &HostRuntime, keeper: &Keeper<P>) -> anyhow::Result<bo
     Ok(settings == 17 && runs == 2 && keeper.any_owed().is_some_and(one_of_them))
 }
 
-// Paging over a bus, and then a keeper on it.
+// Paging over a bus, then a keeper on it, and then a deferral on that.
 fn show_pile<B: Bus<Chart = Head> + Drop>(
     rt: &HostRuntime,
-    paging_title: &str,
-    keeper_title: &str,
+    [paging_title, keeper_title, deferral_title]: [&str; 3],
     bus: B,
 ) -> anyhow::Result<bool> {
     let mut paging = Paging::new(bus);
@@ -137,7 +138,11 @@ fn show_pile<B: Bus<Chart = Head> + Drop>(
     paging.up();
     let mut keeper = Keeper::new(paging);
     let keeper_holds = show_port(rt, keeper_title, &mut keeper)?;
-    Ok(paging_holds & keeper_holds & show_owed(rt, &keeper)?)
+    let owed_holds = show_owed(rt, &keeper)?;
+    keeper.up();
+    let mut deferral = Deferral::new(keeper);
+    let deferral_holds = show_port(rt, deferral_title, &mut deferral)?;
+    Ok(paging_holds & keeper_holds & owed_holds & deferral_holds)
 }
 
 fn main(rt: HostRuntime) -> anyhow::Result<ExitCode> {
@@ -150,11 +155,22 @@ fn main(rt: HostRuntime) -> anyhow::Result<ExitCode> {
     };
     let over_window = show_pile(
         &rt,
-        "paging over a window",
-        "a keeper on paging over a window",
+        [
+            "paging over a window",
+            "a keeper on paging over a window",
+            "a deferral on a keeper on paging over a window",
+        ],
         window,
     )?;
-    let over_i2c = show_pile(&rt, "paging over I2C", "a keeper on paging over I2C", i2c)?;
+    let over_i2c = show_pile(
+        &rt,
+        [
+            "paging over I2C",
+            "a keeper on paging over I2C",
+            "a deferral on a keeper on paging over I2C",
+        ],
+        i2c,
+    )?;
     if over_window & over_i2c {
         println!(rt; "all cases hold")?;
         Ok(ExitCode::SUCCESS)

@@ -40,6 +40,22 @@ owing_costs c =
 abbrev pub keeper_costs : Bool → Costs → Costs
 keeper_costs keeps c = cond keeps (sending_costs c) (owing_costs c)
 
+-- What one entry that waits may cost: it goes as an update or in a run of one, or its share of a longer one is less.
+abbrev pub waiting_cost : Costs → ℕ
+waiting_cost c = max c.update (owed_cost c)
+
+-- a burst of as many entries as one can have
+abbrev pub burst_cost : Costs → ℕ
+burst_cost c = max c.update (longest_cost c)
+
+-- A deferral. What waits was counted when it came to wait: a live read is left with the read below, or with a burst that failed, since
+-- its entries still wait. An update leaves one entry more, or ends at such a burst. A run is so many updates, of which only the last
+-- can end so.
+abbrev pub deferral_costs : Costs → Costs
+deferral_costs c =
+    let burst = burst_cost c in
+    record { read = max c.read burst; update = burst; run = burst; word = waiting_cost c; down = c.down }
+
 abbrev pub port_call_cost : Costs → PortCall → ℕ
 port_call_cost c (Read n) = c.read
 port_call_cost c (Update n mask bits) = c.update

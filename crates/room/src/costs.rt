@@ -1,6 +1,6 @@
 // The events of calls on a port.
-ghost use Rattle.std.specs.Prelude.{◌≡◌, sum_by, IfOk, IfSome};
-ghost use Rattle.room.specs.Costing.{paging_costs, owing_costs, keeper_costs, port_call_cost};
+ghost use Rattle.std.specs.Prelude.{◌≡◌, ◌+◌, ◌*◌, ◌^◌, ◌<◌, false, sum_by, IfOk, OkIff, SomeIff};
+ghost use Rattle.room.specs.Costing.{paging_costs, owing_costs, keeper_costs, longest_cost, deferral_costs, port_call_cost};
 
 use crate::events::{GET, MOST_WORDS, put_events};
 use calls::PortCall;
@@ -37,7 +37,7 @@ impl Costs {
     // A keeper over a port of these costs, which itself keeps or does not. Over one that keeps it owes nothing. Where a number
     // cannot tell its costs, there is no memory for them.
     pub fn keeper(self, keeps: bool) -> Result<Costs, AllocError>
-        ensures { IfOk result (λ c. c ≡ keeper_costs keeps self) }
+        ensures { OkIff result (keeps ≡ false → (longest_cost self < 2 ^ 64) × ((owing_costs self).down < 2 ^ 64)) (keeper_costs keeps self) }
     {
         if keeps {
             return Ok(Costs {
@@ -51,10 +51,10 @@ impl Costs {
 
     // A keeper whose port forgets; None where a number cannot tell its costs.
     fn owing(self) -> Option<Costs>
-        ensures { IfSome result (λ c. c ≡ owing_costs self) }
+        ensures { SomeIff result ((longest_cost self < 2 ^ 64) × ((owing_costs self).down < 2 ^ 64)) (owing_costs self) }
     {
-        let owed = self.run.checked_add(self.word)?;
-        let longest = self.run.checked_add(self.word.checked_mul(MOST_WORDS)?)?;
+        let owed = self.run_of(1)?;
+        let longest = self.run_of(MOST_WORDS)?;
         let update = self.update.max(owed);
         Some(Costs {
             read: self.read.max(longest),
@@ -63,6 +63,35 @@ impl Costs {
             word: update,
             down: self.down.checked_add(owed.checked_mul(REGISTERS)?)?,
         })
+    }
+
+    // A deferral over a port of these costs; where a number cannot tell its costs, there is no memory for them.
+    pub fn deferral(self) -> Result<Costs, AllocError>
+        ensures { OkIff result (longest_cost self < 2 ^ 64) (deferral_costs self) }
+    {
+        self.deferring().ok_or(AllocError)
+    }
+
+    // None where a number cannot tell them.
+    fn deferring(self) -> Option<Costs>
+        ensures { SomeIff result (longest_cost self < 2 ^ 64) (deferral_costs self) }
+    {
+        let waiting = self.update.max(self.run_of(1)?);
+        let burst = self.update.max(self.run_of(MOST_WORDS)?);
+        Some(Costs {
+            read: self.read.max(burst),
+            update: burst,
+            run: burst,
+            word: waiting,
+            down: self.down,
+        })
+    }
+
+    // A run of so many words; None where a number cannot tell its cost.
+    fn run_of(self, words: usize) -> Option<usize>
+        ensures { SomeIff result (self.run + words * self.word < 2 ^ 64) (self.run + words * self.word) }
+    {
+        self.run.checked_add(self.word.checked_mul(words)?)
     }
 
     // One call.

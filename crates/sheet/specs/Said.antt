@@ -7,7 +7,7 @@ use Rattle.sheet.specs.declared.ChartName.{ChartName}
 use Rattle.sheet.specs.declared.layers.Layer.{Layer}
 use Rattle.sheet.specs.declared.Make.TheVariants.{I2c, Window}
 use Rattle.sheet.specs.declared.ChartName.TheVariants.{Head, Valve}
-use Rattle.sheet.specs.declared.layers.Layer.TheVariants.{Keeper}
+use Rattle.sheet.specs.declared.layers.Layer.TheVariants.{Keeper, Deferral}
 use Rattle.calls.specs.Asked.{Asked, get, put, measure, down, up}
 use Rattle.calls.specs.declared.PortCall.{PortCall}
 use Rattle.calls.specs.declared.PortCall.TheVariants as port
@@ -86,7 +86,7 @@ chart_of (w ∷ []) = chart_named w
 chart_of (w ∷ v ∷ vs) = Err WordCount
 
 abbrev pub layer_of : List ℕ → Result Layer Mistake
-layer_of w = cond (bytes_eq w (codes "keeper")) (Ok Keeper) (Err UnknownLayer)
+layer_of w = cond (bytes_eq w (codes "keeper")) (Ok Keeper) (cond (bytes_eq w (codes "deferral")) (Ok Deferral) (Err UnknownLayer))
 
 -- a port that stands on the bus, and the layers over it from the bottom up
 abbrev pub piled : List ℕ → List (List ℕ) → Result (List Layer) Mistake

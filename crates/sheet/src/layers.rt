@@ -5,6 +5,7 @@ ghost use Rattle.std.specs.Prelude.{◌≡◌, ◌≤◌, cond, length, None, So
 #[derive(Debug, Clone, Copy, PartialEq, Eq)]
 pub enum Layer {
     Keeper,
+    Deferral,
 }
 
 // The most layers of a pile.

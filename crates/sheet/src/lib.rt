@@ -17,7 +17,7 @@
 //     up
 //
 // The first four open a sheet, in any order, and come before the first call. The layers of a pile are named from the bottom
-// up, at most three of them; the one that there is so far is `keeper`.
+// up, at most three of them, each `keeper` or `deferral`.
 //
 // Of the mistakes of one line the one that is told is the first of: an unknown statement or a call of the other kind, the
 // number of its words, its words from left to right, and its place in the sheet. The make of a bus comes before the number

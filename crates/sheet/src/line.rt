@@ -104,6 +104,7 @@ fn layer(word: &[u8]) -> Result<Layer, Mistake>
 {
     match word {
         b"keeper" => Ok(Layer::Keeper),
+        b"deferral" => Ok(Layer::Deferral),
         _ => Err(Mistake::UnknownLayer),
     }
 }

@@ -2,6 +2,8 @@
 #![tactic(auto)]
 
 #[cfg(test)]
+mod deferrals;
+#[cfg(test)]
 mod keepers;
 #[cfg(test)]
 mod mistakes;

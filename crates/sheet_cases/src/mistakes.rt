@@ -41,9 +41,9 @@ fn reads_every_statement(rt: HostRuntime) -> Result<(), Fail> {
 fn reads_every_statement_of_a_pile(rt: HostRuntime) -> Result<(), Fail> {
     let heap = rt.alloc();
     let text =
-        b"pile  paging keeper\tkeeper keeper # as many as there may be\nbus window\nread 64\nupdate 0x41 255 0x00aA\nmeasure 112 7\ndown\nup\n";
-    let keepers = vec![in heap; Layer::Keeper, Layer::Keeper, Layer::Keeper]?;
-    let Some(layers) = Layers::new(keepers) else {
+        b"pile  paging keeper\tdeferral keeper # as many as there may be\nbus window\nread 64\nupdate 0x41 255 0x00aA\nmeasure 112 7\ndown\nup\n";
+    let three = vec![in heap; Layer::Keeper, Layer::Deferral, Layer::Keeper]?;
+    let Some(layers) = Layers::new(three) else {
         panic!(rt; "three layers are too many");
     };
     let calls = vec![in heap;
@@ -162,7 +162,7 @@ fn tells_wrong_piles(rt: HostRuntime) {
     is_wrong(
         &rt,
         heap,
-        b"bus window\npile paging keeper keeper keeper keeper",
+        b"bus window\npile paging deferral keeper deferral keeper",
         2,
         Mistake::WordCount,
     );
@@ -190,7 +190,7 @@ fn tells_wrong_piles(rt: HostRuntime) {
     is_wrong(
         &rt,
         heap,
-        b"bus window\npile paging x keeper",
+        b"bus window\npile paging keeper deferal",
         2,
         Mistake::UnknownLayer,
     );
@@ -293,7 +293,12 @@ fn says_what_is_wrong(rt: HostRuntime) -> Result<(), Fail> {
 
 #[test]
 fn no_pile_has_four_layers(rt: HostRuntime) -> Result<(), Fail> {
-    let keepers = vec![in rt.alloc(); Layer::Keeper, Layer::Keeper, Layer::Keeper, Layer::Keeper]?;
-    assert!(rt; Layers::new(keepers).is_none());
+    let four = vec![in rt.alloc();
+        Layer::Keeper,
+        Layer::Deferral,
+        Layer::Deferral,
+        Layer::Keeper,
+    ]?;
+    assert!(rt; Layers::new(four).is_none());
     Ok(())
 }

@@ -1,3 +1,2 @@
 mod Telling
-mod Layering
 mod Roomy

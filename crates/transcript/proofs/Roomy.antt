@@ -9,18 +9,20 @@ use Rattle.bus.specs.I2cs.{i2c_steps, i2c_chip, i2c_trace, new_i2c}
 use Rattle.port.specs.Meaning.{PortSteps}
 use Rattle.pages.specs.Machine.{paged, paging_steps}
 use Rattle.keeping.specs.Machine.{new_keeper, keeper_steps}
+use Rattle.deferring.specs.Machine.{new_deferral, deferral_steps}
 use Rattle.calls.specs.declared.PortCall.{PortCall}
 use Rattle.sheet.specs.Sheets.{Job, on_bus, on_pile}
 use Rattle.sheet.specs.declared.layers.Layer.{Layer}
-use Rattle.sheet.specs.declared.layers.Layer.TheVariants.{Keeper}
+use Rattle.sheet.specs.declared.layers.Layer.TheVariants.{Keeper, Deferral}
 use Rattle.perform.specs.Performed.{performed, port_performed}
 use Rattle.room.specs.Events.{call_events}
-use Rattle.room.specs.Costing.{paging_costs, keeper_costs, port_call_cost}
+use Rattle.room.specs.Costing.{paging_costs, keeper_costs, deferral_costs, port_call_cost}
 use Rattle.room.specs.declared.costs.Costs.{Costs}
 use Rattle.room.proofs.Paying.{RoomyBus, RoomyPort, Any, owes_none, walk_pays, port_call_pays, none_out}
 use Rattle.room.proofs.I2cRoomy.{i2c_roomy}
 use Rattle.room.proofs.PagingRoomy.{paging_roomy}
-use Rattle.room.proofs.KeeperRoomy.{keeper_left, KeeperKept, keeper_roomy, new_kept, new_owes}
+use Rattle.room.proofs.KeeperRoomy as keeper
+use Rattle.room.proofs.DeferralRoomy as deferral
 use Rattle.transcript.specs.Told.{pile_shown, job_shown, layers_costs, job_room}
 
 module _ (class : ℕ → Class) (reset : ℕ → ℕ) where
@@ -32,9 +34,14 @@ module _ (class : ℕ → Class) (reset : ℕ → ℕ) where
       none_out trace left J most m _ none (walk_pays trace left J (port_performed step) (port_call_cost c) (port_call_pays trace left J step c port) cs m j) r
   pile_roomy (Keeper ∷ ls) keeps step trace chip c left J port cs m j none r =
       pile_roomy ls true (keeper_steps step chip keeps class reset) (λ k. trace k.below) (λ k. chip k.below) (keeper_costs keeps c)
-      (keeper_left step trace chip keeps class reset c left J port) (KeeperKept step trace chip keeps class reset c left J port)
-      (keeper_roomy step trace chip keeps class reset c left J port) cs (new_keeper reset m)
-      (new_kept step trace chip keeps class reset c left J port m j) (new_owes step trace chip keeps class reset c left J port m none) r
+      (keeper.keeper_left step trace chip keeps class reset c left J port) (keeper.KeeperKept step trace chip keeps class reset c left J port)
+      (keeper.keeper_roomy step trace chip keeps class reset c left J port) cs (new_keeper reset m)
+      (keeper.new_kept step trace chip keeps class reset c left J port m j) (keeper.new_owes step trace chip keeps class reset c left J port m none) r
+  pile_roomy (Deferral ∷ ls) keeps step trace chip c left J port cs m j none r =
+      pile_roomy ls keeps (deferral_steps step chip keeps class) (λ k. trace k.below) (λ k. chip k.below) (deferral_costs c)
+      (deferral.deferral_left step trace chip keeps class c left J port) (deferral.DeferralKept step trace chip keeps class c left J port)
+      (deferral.deferral_roomy step trace chip keeps class c left J port) cs (new_deferral m)
+      (deferral.new_kept step trace chip keeps class c left J port m j) (deferral.new_owes step trace chip keeps class c left J port m none) r
 
   job_roomy : {M : Type 0} (step : Steps M) (trace : M → Traced) (chip : M → Chip) (bus : RoomyBus step trace) (job : Job) (m : M) → Room (trace m) (job_room job) → Room (job_shown class reset step trace chip job m).trace 0
   job_roomy step trace chip bus (on_bus cs) m r =

@@ -13,19 +13,20 @@ use Rattle.i2c.specs.Made.{Addressable}
 use Rattle.port.specs.Meaning.{PortSteps}
 use Rattle.pages.specs.Machine.{paged, paging_steps}
 use Rattle.keeping.specs.Machine.{new_keeper, keeper_steps}
+use Rattle.deferring.specs.Machine.{new_deferral, deferral_steps}
 use Rattle.sheet.specs.Sheets.{Job, on_bus, on_pile, Whole}
 use Rattle.calls.specs.Texts.{call_text, port_call_text}
 use Rattle.sheet.specs.declared.ChartName.{ChartName}
 use Rattle.sheet.specs.declared.ChartName.TheVariants.{Head, Valve}
 use Rattle.sheet.specs.declared.layers.Layer.{Layer}
-use Rattle.sheet.specs.declared.layers.Layer.TheVariants.{Keeper}
+use Rattle.sheet.specs.declared.layers.Layer.TheVariants.{Keeper, Deferral}
 use Rattle.sheet.specs.declared.Make.{Make}
 use Rattle.sheet.specs.declared.Make.TheVariants.{I2c, Window}
 use Rattle.calls.specs.declared.PortCall.{PortCall}
 use Rattle.perform.specs.Performed.{Seen, performed, port_performed, walked}
 use Rattle.text.specs.Texts.{transcript_text, unmade_text}
 use Rattle.room.specs.Events.{call_events}
-use Rattle.room.specs.Costing.{paging_costs, keeper_costs, port_call_cost}
+use Rattle.room.specs.Costing.{paging_costs, keeper_costs, deferral_costs, port_call_cost}
 use Rattle.room.specs.declared.costs.Costs.{Costs}
 
 -- what calls come to, for a transcript: what is seen of each, and then what passed on the wire and the chip once all are over
@@ -44,6 +45,8 @@ module _ (class : ℕ → Class) (reset : ℕ → ℕ) where
   pile_shown [] keeps step trace chip cs m = calls_shown (port_performed step) trace chip cs m
   pile_shown (Keeper ∷ ls) keeps step trace chip cs m =
       pile_shown ls true (keeper_steps step chip keeps class reset) (λ k. trace k.below) (λ k. chip k.below) cs (new_keeper reset m)
+  pile_shown (Deferral ∷ ls) keeps step trace chip cs m =
+      pile_shown ls keeps (deferral_steps step chip keeps class) (λ k. trace k.below) (λ k. chip k.below) cs (new_deferral m)
 
   -- a job on a bus that is at m, or on a pile over new paging over it
   abbrev pub job_shown : {M : Type 0} → Steps M → (M → Traced) → (M → Chip) → Job → M → Shown
@@ -69,6 +72,7 @@ played class reset step trace chip (on_pile ls cs) m =
 abbrev pub layers_costs : List Layer → Bool → Costs → Costs
 layers_costs [] keeps c = c
 layers_costs (Keeper ∷ ls) keeps c = layers_costs ls true (keeper_costs keeps c)
+layers_costs (Deferral ∷ ls) keeps c = layers_costs ls keeps (deferral_costs c)
 
 -- and on layers over paging
 abbrev pub pile_costs : List Layer → Costs

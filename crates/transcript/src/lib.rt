@@ -1,17 +1,12 @@
 // Performs a bench sheet on a simulated chip, and writes down what each call answered and what passed on the wire.
 #![tactic(auto)]
 
-ghost use Rattle.std.specs.Prelude.{◌≡◌, ◌≤◌, true, false, map, length, List, [], ◌∷◌, IfOk, MatchResult, string_bytes};
+ghost use Rattle.std.specs.Prelude.{◌≡◌, ◌≤◌, false, map, [], IfOk, MatchResult, string_bytes};
 ghost use Rattle.chart.specs.Replies.{told, failure_values};
-ghost use Rattle.keeping.specs.Machine.{keeper_steps};
-ghost use Rattle.keeper.specs.Made.{keeper_model};
 ghost use Rattle.calls.specs.Asked.{asked};
-ghost use Rattle.calls.specs.declared.PortCall.{PortCall};
-ghost use Rattle.sheet.specs.Sheets.{on_bus, on_pile, job_of, whole};
-ghost use Rattle.sheet.specs.declared.layers.Layer.{Layer};
-ghost use Rattle.sheet.specs.declared.layers.Layer.TheVariants as layer;
+ghost use Rattle.sheet.specs.Sheets.{on_bus, job_of, whole};
 ghost use Rattle.text.specs.Texts.{unmade_text};
-ghost use Rattle.transcript.specs.Told.{pile_costs, job_room, pile_played, played, MakeTells, SheetTells};
+ghost use Rattle.transcript.specs.Told.{pile_costs, job_room, played, MakeTells, SheetTells};
 
 use bus::bus::Bus;
 use bus::unmade::Unmade;
@@ -20,19 +15,18 @@ use chart::class::Chart;
 use chip::memory;
 use i2c::i2c::I2c;
 use i2c_target::trace::Trace;
-use keeper::keeper::Keeper;
-use paging::paging::Paging;
 use perform::answer::perform_all;
-use port::port::Port;
+use pile::play_on_pile;
 use room::costs::Costs;
 use room::events::bus_room;
-use sheet::{Call, Calls, ChartName, Layer, Make, PortCall, Sheet};
+use sheet::{Call, Calls, ChartName, Layer, Make, Sheet};
 use std::alloc::{AllocError, Global};
 use text::text::{unmade, written};
 use window::window::Window;
 
+mod pile;
+
 // The costs of calls on layers over paging.
-#[tactic(auto, using(crate::proofs::Layering::layer_costs, crate::proofs::Layering::no_layer_costs))]
 fn pile_costs(layers: &[Layer]) -> Result<Costs, AllocError>
     ensures { IfOk result (λ c. c ≡ pile_costs layers.now) }
 {
@@ -44,6 +38,7 @@ fn pile_costs(layers: &[Layer]) -> Result<Costs, AllocError>
                 costs = costs.keeper(keeps)?;
                 keeps = true;
             }
+            Layer::Deferral => costs = costs.deferral()?,
         }
     }
     Ok(costs)
@@ -78,91 +73,6 @@ fn play_on_bus<B: Bus + Drop>(
     written(heap, &bus, calls, outcomes.as_slice())
 }
 
-// Performs calls on a port, and tells what came of them.
-#[tactic(auto, unfolding(crate::specs::Told::pile_played))]
-fn play_on_port<P: Port + Drop>(
-    heap: Global,
-    mut port: P,
-    calls: &[PortCall],
-) -> Result<String, AllocError>
-    ensures { IfOk result (λ t. string_bytes t ≡ pile_played P.Chart.Chart.classed P.Chart.Chart.resets [] P.Port.KEEPS (P.Port.steps P.Chart.Chart.classed P.Chart.Chart.resets) P.Port.trace P.Port.chip calls.now (P.Port.model port)) }
-{
-    let outcomes = perform_all(heap, &mut port, calls)?;
-    written(heap, port.bus(), calls, outcomes.as_slice())
-}
-
-// A new keeper over a port: calls on layers over it are calls on the keeper and those layers over the port.
-fn keeper_over<P: Port>(port: P) -> Keeper<P>
-    ensures { (ls : List Layer) (cs : List PortCall) → pile_played P.Chart.Chart.classed P.Chart.Chart.resets ls true (keeper_steps (P.Port.steps P.Chart.Chart.classed P.Chart.Chart.resets) P.Port.chip P.Port.KEEPS P.Chart.Chart.classed P.Chart.Chart.resets) (λ k. P.Port.trace k.below) (λ k. P.Port.chip k.below) cs (keeper_model P.Port.model result) ≡ pile_played P.Chart.Chart.classed P.Chart.Chart.resets (layer.Keeper ∷ ls) P.Port.KEEPS (P.Port.steps P.Chart.Chart.classed P.Chart.Chart.resets) P.Port.trace P.Port.chip cs (P.Port.model port) }
-{
-    Keeper::new(port)
-}
-
-// Performs calls on at most one layer over a port. Each number of layers has a function of its own, since each layer is of
-// another type than what it stands on.
-#[tactic(auto, using(crate::proofs::Layering::keeper_alone))]
-fn play_over_one<P: Port + Drop>(
-    heap: Global,
-    port: P,
-    layers: &[Layer],
-    calls: &[PortCall],
-) -> Result<String, AllocError>
-    requires { length layers.now ≤ 1 }
-    ensures { IfOk result (λ t. string_bytes t ≡ pile_played P.Chart.Chart.classed P.Chart.Chart.resets layers.now P.Port.KEEPS (P.Port.steps P.Chart.Chart.classed P.Chart.Chart.resets) P.Port.trace P.Port.chip calls.now (P.Port.model port)) }
-{
-    match layers {
-        [] => play_on_port(heap, port, calls),
-        [Layer::Keeper, ..] => play_on_port(heap, keeper_over(port), calls),
-    }
-}
-
-// At most two.
-#[tactic(auto, using(crate::proofs::Layering::keeper_first))]
-fn play_over_two<P: Port + Drop>(
-    heap: Global,
-    port: P,
-    layers: &[Layer],
-    calls: &[PortCall],
-) -> Result<String, AllocError>
-    requires { length layers.now ≤ 2 }
-    ensures { IfOk result (λ t. string_bytes t ≡ pile_played P.Chart.Chart.classed P.Chart.Chart.resets layers.now P.Port.KEEPS (P.Port.steps P.Chart.Chart.classed P.Chart.Chart.resets) P.Port.trace P.Port.chip calls.now (P.Port.model port)) }
-{
-    match layers {
-        [] => play_on_port(heap, port, calls),
-        [Layer::Keeper, over @ ..] => play_over_one(heap, keeper_over(port), over, calls),
-    }
-}
-
-// At most three, which is as many as there can be.
-#[tactic(auto, using(crate::proofs::Layering::keeper_first))]
-fn play_over_three<P: Port + Drop>(
-    heap: Global,
-    port: P,
-    layers: &[Layer],
-    calls: &[PortCall],
-) -> Result<String, AllocError>
-    requires { length layers.now ≤ 3 }
-    ensures { IfOk result (λ t. string_bytes t ≡ pile_played P.Chart.Chart.classed P.Chart.Chart.resets layers.now P.Port.KEEPS (P.Port.steps P.Chart.Chart.classed P.Chart.Chart.resets) P.Port.trace P.Port.chip calls.now (P.Port.model port)) }
-{
-    match layers {
-        [] => play_on_port(heap, port, calls),
-        [Layer::Keeper, over @ ..] => play_over_two(heap, keeper_over(port), over, calls),
-    }
-}
-
-// Performs calls on a pile over a bus: new paging, and layers over it.
-fn play_on_pile<B: Bus + Drop>(
-    heap: Global,
-    bus: B,
-    layers: &[Layer],
-    calls: &[PortCall],
-) -> Result<String, AllocError>
-    requires { length layers.now ≤ 3 }
-    ensures { IfOk result (λ t. string_bytes t ≡ played B.Chart.Chart.classed B.Chart.Chart.resets (B.Bus.steps B.Chart.Chart.classed B.Chart.Chart.resets) B.Bus.trace B.Bus.chip (on_pile layers.now calls.now) (B.Bus.model bus)) }
-{
-    play_over_three(heap, Paging::new(bus), layers, calls)
-}
-
 // Performs calls over a bus, where one was made.
 fn play<B: Bus + Drop, T: Drop>(
     heap: Global,
@@ -174,7 +84,7 @@ fn play<B: Bus + Drop, T: Drop>(
     match (made, calls) {
         (Ok(bus), Calls::Bus(calls)) => play_on_bus(heap, bus, calls.as_slice()),
         (Ok(bus), Calls::Pile { layers, calls }) => {
-            play_on_pile(heap, bus, layers.as_slice(), calls.as_slice())
+            play_on_pile(heap, bus, layers, calls.as_slice())
         }
         (Err(Unmade { refusal, .. }), _) => unmade(heap, refusal),
     }

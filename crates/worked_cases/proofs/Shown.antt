@@ -7,6 +7,7 @@ use mathlib.Core.Bool.{cond}
 use mathlib.Core.List.{[], ◌∷◌}
 use lib.Dec.{lit≤}
 use lib.ListN.{take}
+use Rattle.chart.specs.Patch.{setting_to}
 use Rattle.chart.specs.Replies.{Reply, accepted, refused}
 use Rattle.chart.proofs.Masked.{join_example}
 use Rattle.chip.specs.Words.{loaded, rising, all_stored}
@@ -17,7 +18,6 @@ use Rattle.chart.specs.Charts.{head_class, head_reset}
 use Rattle.i2c_target.specs.Traces.{Traced}
 use Rattle.port.specs.Checks.{is_accepted}
 use Rattle.pages.specs.Machine.{PagingModel, paging_steps}
-use Rattle.layers.specs.Layers.{setting_to}
 use Rattle.layers.proofs.Standing.{went_on}
 use Rattle.owed.specs.Runs.{tallied}
 use Rattle.keeping.specs.Machine.{KeeperModel, over, back, holding, set_back}

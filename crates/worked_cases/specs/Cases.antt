@@ -2,7 +2,7 @@
 use Rattle.std.specs.Prelude.{ℕ, ◌≡◌, Bool, true, false, ◌||◌, List, [], ◌∷◌, map, take, Some, ◌==◌}
 use Rattle.std.specs.List.{range_with_len}
 use Rattle.chart.specs.Charts.{within, head_class, head_reset}
-use Rattle.chart.specs.Patch.{JoinExample}
+use Rattle.chart.specs.Patch.{JoinExample, setting_to}
 use Rattle.chart.specs.Replies.{Reply, accepted, refused}
 use Rattle.chip.specs.Words.{rising, all_stored}
 use Rattle.i2c_target.specs.declared.event.Event.TheVariants.{Start, Byte, Stop}
@@ -12,7 +12,6 @@ use Rattle.bus.specs.I2cs.{I2cModel, first_mark, get_sent, put_sent, i2c_chip, i
 use Rattle.i2c_target.specs.Traces.{Traced}
 use Rattle.port.specs.Meaning.{PortSteps}
 use Rattle.pages.specs.Machine.{PagingModel, paged, paging_steps}
-use Rattle.layers.specs.Layers.{setting_to}
 use Rattle.owed.specs.Runs.{tallied}
 use Rattle.keeping.specs.Machine.{KeeperModel, new_keeper, keeper_steps}
 

@@ -1,0 +1,195 @@
+// Updates in bursts, over any port: each waits in a table, until that is full or a live register is read.
+ghost use Rattle.std.specs.Prelude.{◌≡◌, ℕ, ◌+◌, ◌<◌, ◌≤◌, ◌||◌, [], true, length};
+ghost use Rattle.chart.specs.declared.class.Class.TheVariants.{Setting};
+ghost use Rattle.port.specs.Views.{Agree};
+ghost use Rattle.port.specs.Checks.{onward};
+ghost use Rattle.chart.specs.Replies.{port_reply, word_value, no_value};
+ghost use Rattle.entries.specs.Entries.{first_burst, words_of};
+ghost use Rattle.deferring.specs.Machine.{DeferralModel, DeferralSound, DeferralNew, new_deferral, passed, burst_sent, entries_sent, place_made, live_read, setting_read, deferral_steps, shown_under};
+ghost use Rattle.deferral.specs.Made.{deferral_model};
+ghost use Rattle.deferring.proofs.DeferralMeaning.{deferral_meaning};
+
+use arrayvec::ArrayVec;
+use chart::class::{Chart, Class};
+use chart::patch::Patch;
+use chart::refusal::{Fault, Refusal};
+use entries::entry::Entry;
+use entries::table::{MOST_ENTRIES, Table};
+use layers::layers::on_owed;
+use port::port::Port;
+
+#[derive(Drop)]
+pub struct Deferral<P> {
+    below: P,
+    table: Table,
+}
+
+// The words of a run: what each entry makes of any word.
+fn words_of(burst: &[Entry]) -> ArrayVec<u16, MOST_ENTRIES>
+    requires { length burst.now ≤ 16 }
+    ensures { result.items ≡ words_of burst.now }
+{
+    let mut words = ArrayVec::new();
+    for entry in burst {
+        words.push(entry.patch.act(0));
+    }
+    words
+}
+
+// A burst goes below: as a run where its entries set whole words, and else as the one update that it is.
+fn pass<P: Port>(below: &mut P, burst: &[Entry]) -> Result<(), Refusal<Fault>>
+    requires { length burst.now ≤ 16 }
+    ensures { (port_reply no_value result, P.Port.model below.new) ≡ passed (P.Port.steps P.Chart.Chart.classed P.Chart.Chart.resets) (P.Port.model below.old) burst.now }
+{
+    match burst {
+        [] => Ok(()),
+        [first, ..] if first.patch.is_complete() => below.run(first.register, &words_of(burst)),
+        [first, ..] => below.update(first.register, first.patch),
+    }
+}
+
+// The clauses go through `deferral_model`, and name the steps at the chart of the port below, as those of a keeper do.
+impl<P: Port> Deferral<P> {
+    // Over a new port this is a new port.
+    pub fn new(below: P) -> Deferral<P>
+        ensures value { deferral_model P.Port.model result ≡ new_deferral (P.Port.model below) }
+        ensures new { P.Port.New P.Chart.Chart.resets (P.Port.model below) → DeferralNew (P.Port.New P.Chart.Chart.resets) (deferral_model P.Port.model result) }
+    {
+        Deferral {
+            below,
+            table: Table::new(),
+        }
+    }
+
+    // The lowest burst goes below; its entries leave once it is accepted. All that waits is sent so, one burst after the other.
+    #[tactic(auto, using(deferring::proofs::Stepping::sends_by, deferring::proofs::Stepping::sends_next, deferring::proofs::Stepping::sends_less))]
+    fn send_burst(&mut self) -> Result<(), Refusal<Fault>>
+        ensures value { (port_reply no_value result, deferral_model P.Port.model self.new) ≡ burst_sent (P.Port.steps P.Chart.Chart.classed P.Chart.Chart.resets) (deferral_model P.Port.model self.old) (first_burst self.old.table) }
+        ensures fewer { 0 < length self.old.table → (port_reply no_value result).number ≡ 0 → length self.new.table < length self.old.table }
+        ensures then { 0 < length self.old.table → entries_sent (P.Port.steps P.Chart.Chart.classed P.Chart.Chart.resets) (deferral_model P.Port.model self.old) ≡ onward (port_reply no_value result, deferral_model P.Port.model self.new) (entries_sent (P.Port.steps P.Chart.Chart.classed P.Chart.Chart.resets)) }
+    {
+        let burst = self.table.burst();
+        let count = burst.len();
+        pass(&mut self.below, burst).map_err(on_owed)?;
+        self.table.leave(count);
+        Ok(())
+    }
+
+    // All that waits goes below, burst by burst, up to the first that is refused.
+    fn send_entries(&mut self) -> Result<(), Refusal<Fault>>
+        ensures value { (port_reply no_value result, deferral_model P.Port.model self.new) ≡ entries_sent (P.Port.steps P.Chart.Chart.classed P.Chart.Chart.resets) (deferral_model P.Port.model self.old) }
+        ensures empties { (port_reply no_value result).number ≡ 0 → self.new.table ≡ [] }
+    {
+        while !self.table.is_empty() {
+            self.send_burst()?;
+        }
+        Ok(())
+    }
+
+    // An update that finds no place has all others sent first. Whatever becomes of them, the settings are shown as before, if they were
+    // at hand.
+    fn make_place(&mut self, register: u16, patch: Patch) -> Result<(), Refusal<Fault>>
+        ensures value { (port_reply no_value result, deferral_model P.Port.model self.new) ≡ place_made (P.Port.steps P.Chart.Chart.classed P.Chart.Chart.resets) (deferral_model P.Port.model self.old) register patch }
+        ensures stands { DeferralSound P.Chart.Chart.classed P.Port.Sound (deferral_model P.Port.model self.old) → (P.Port.KEEPS || (P.Port.chip (P.Port.model self.old.below)).supply) ≡ true → Agree P.Chart.Chart.classed Setting (shown_under P.Port.shown (deferral_model P.Port.model self.new)) (shown_under P.Port.shown (deferral_model P.Port.model self.old)) }
+    {
+        if self.table.takes(register, patch) {
+            return Ok(());
+        }
+        self.send_entries()
+    }
+
+    // What waits for a setting lies on the word below, which need not be read where nothing of it would be left.
+    fn read_setting(&mut self, register: u16) -> Result<u16, Refusal<Fault>>
+        ensures { (port_reply word_value result, deferral_model P.Port.model self.new) ≡ setting_read (P.Port.steps P.Chart.Chart.classed P.Chart.Chart.resets) (deferral_model P.Port.model self.old) register }
+    {
+        match self.table.find(register) {
+            None => self.below.read(register),
+            Some(patch) if patch.is_complete() => Ok(patch.act(0)),
+            Some(patch) => Ok(patch.act(self.below.read(register)?)),
+        }
+    }
+
+    // A live register is read below once nothing waits.
+    fn read_live(&mut self, register: u16) -> Result<u16, Refusal<Fault>>
+        ensures { (port_reply word_value result, deferral_model P.Port.model self.new) ≡ live_read (P.Port.steps P.Chart.Chart.classed P.Chart.Chart.resets) (deferral_model P.Port.model self.old) register }
+    {
+        self.send_entries()?;
+        self.below.read(register)
+    }
+}
+
+impl<P: Port> Port for Deferral<P> {
+    type Chart = P::Chart;
+
+    type Bus = P::Bus;
+
+    const KEEPS: bool = P::KEEPS;
+
+    ghost KEEPS = { P.Port.KEEPS };
+
+    ghost Model = { DeferralModel P.Port.Model };
+
+    ghost model = { deferral_model P.Port.model };
+
+    ghost steps = { λ class reset. deferral_steps (P.Port.steps class reset) P.Port.chip P.Port.KEEPS class };
+
+    ghost shown = { shown_under P.Port.shown };
+
+    ghost chip = { λ m. P.Port.chip m.below };
+
+    ghost trace = { λ m. P.Port.trace m.below };
+
+    ghost Sound = { DeferralSound P.Chart.Chart.classed P.Port.Sound };
+
+    ghost New = { λ reset. DeferralNew (P.Port.New reset) };
+
+    ghost meaning = { let chart = P.Chart.Chart in
+        let port = P.Port in
+        deferral_meaning port.KEEPS (port.steps chart.classed chart.resets) port.shown port.chip port.Sound (port.New chart.resets) port.meaning };
+
+    fn bus(&self) -> &P::Bus {
+        self.below.bus()
+    }
+
+    fn supply(&self) -> bool {
+        self.below.supply()
+    }
+
+    fn read(&mut self, register: u16) -> Result<u16, Refusal<Fault>> {
+        let class = P::Chart::class(register);
+        self.access().check_read(class)?;
+        match class {
+            Class::Setting => self.read_setting(register),
+            Class::Live | Class::Absent => self.read_live(register),
+        }
+    }
+
+    // An update waits in the table from now on.
+    fn update(&mut self, register: u16, patch: Patch) -> Result<(), Refusal<Fault>> {
+        self.access().check_update(P::Chart::class(register))?;
+        self.make_place(register, patch)?;
+        self.table.enter(register, patch);
+        Ok(())
+    }
+
+    fn run(&mut self, first: u16, words: &[u16]) -> Result<(), Refusal<Fault>> {
+        self.access().check_run::<P::Chart>(first, words.len())?;
+        self.update_each(first, words)
+    }
+
+    fn measure(&mut self, register: u16, word: u16) -> Result<(), Refusal<Fault>> {
+        self.below.measure(register, word)
+    }
+
+    // What waits is lost with the settings of a port that forgets.
+    fn down(&mut self) {
+        self.below.down();
+        if !P::KEEPS {
+            self.table.clear();
+        }
+    }
+
+    fn up(&mut self) {
+        self.below.up();
+    }
+}

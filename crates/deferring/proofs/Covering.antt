@@ -1,0 +1,99 @@
+-- What waits in the first entries of a table, and what in the rest of it. Assumes nothing.
+use Rattle.std.proofs.Common.{◌≡◌, ℕ, eqb, zero, suc, ◌+◌, ◌<◌, true, false, List, [], ◌∷◌, ◌++◌, length, Some, None, sym, refl, ap, ◌∙◌, ⊎_elim, add-zero, arith, lit<}
+use Rattle.std.proofs.lemmas.Bool.{cond-true, eq-eqb, cases_eq, both_ways}
+use Rattle.chart.specs.Patch.{acted, complete}
+use Rattle.chart.specs.declared.patch.Patch.{Patch}
+use Rattle.chart.proofs.Masked.{acted_fits, completes}
+use Rattle.chip.specs.Words.{Fit}
+use Rattle.port.specs.Views.{replaced, ran}
+use Rattle.port.proofs.Replacing.{replaced_other}
+use Rattle.entries.specs.Entries.{IsEntry, Ascend, found, under, Linked, words_of}
+use Rattle.entries.specs.declared.entry.Entry.{Entry}
+use Rattle.entries.proofs.Finding.{found_at, found_behind, none_below, ascend_rest}
+
+-- a word under a whole table is that word under its front, and then under its rest
+pub under_both : (n i w : ℕ) (b rest : List Entry) → Ascend IsEntry n (b ++ rest) → under (found i (b ++ rest)) w ≡ under (found i rest) (under (found i b) w)
+under_both n i w [] rest up = refl
+under_both n i w (e ∷ b) rest up = ⊎_elim
+    (λ at.
+    let whole = found_at i e (b ++ rest) at in
+    let front = found_at i e b at in
+    let none = none_below IsEntry (e.register + 1) i rest (ascend_rest IsEntry (e.register + 1) b rest up.2) (omega (arith, at)) in
+    rw (whole, front, none) refl)
+    (λ away.
+    let whole = found_behind i e (b ++ rest) away in
+    let front = found_behind i e b away in
+    rw (whole, front) (under_both (e.register + 1) i w b rest up.2))
+    (cases_eq e.register i)
+
+replaced_at : (n w : ℕ) (f : ℕ → ℕ) (i : ℕ) → n ≡ i → replaced n w f i ≡ w
+replaced_at n w f i at = cond-true (eqb i n) w (f i) (eq-eqb i n (sym at))
+
+-- one entry is an update of its register
+pub one_covered : (e : Entry) (es : List Entry) (f : ℕ → ℕ) (i : ℕ) → es ≡ [] → replaced e.register (acted e.patch (f e.register)) f i ≡ under (found i (e ∷ es)) (f i)
+one_covered e es f i one = ⊎_elim
+    (λ at. let here = found_at i e es at in rw here (replaced_at e.register (acted e.patch (f e.register)) f i at ∙ ap (λ k. acted e.patch (f k)) at))
+    (λ away. let past = found_behind i e es away in rw (past, one) (replaced_other e.register (acted e.patch (f e.register)) f i (λ at. away (sym at))))
+    (cases_eq e.register i)
+
+pub words_fit : (n : ℕ) (es : List Entry) → Ascend IsEntry n es → Fit (words_of es)
+words_fit n [] up k = lit< tt
+words_fit n (e ∷ es) up zero = acted_fits e.patch 0 up.1.fits.0
+words_fit n (e ∷ es) up (suc k) = words_fit (e.register + 1) es up.2 k
+
+-- Entries of which each leads to the next.
+module _ where
+  -- an entry that another follows has the whole mask, and so has that one
+  whole_mask : (e : Entry) → e.patch.mask ≡ 65535 → complete e.patch ≡ true
+  whole_mask e is = eq-eqb e.patch.mask 65535 is
+
+  pub alone : (e : Entry) (es : List Entry) → Linked (e ∷ es) → complete e.patch ≡ false → es ≡ []
+  alone e [] linked part = refl
+  alone e (next ∷ es) linked part = absurd (both_ways _ part (whole_mask e linked.0.0))
+
+  -- a number for each of them
+  pub found_linked : (e : Entry) (es : List Entry) (i : ℕ) → Linked (e ∷ es) → i < length (e ∷ es) → (p : Patch) × (found (e.register + i) (e ∷ es) ≡ Some p)
+  found_linked e es zero linked low = (e.patch, found_at (e.register + zero) e es (sym (add-zero e.register)))
+  found_linked e [] (suc i) linked low = absurd (omega (arith, low))
+  found_linked e (next ∷ es) (suc i) linked low =
+      let follows = linked.0.2 in
+      let more = found_linked next es i linked.1 (omega (arith, low)) in
+      let at : e.register + suc i ≡ next.register + i = omega (arith, follows) in
+      (more.0, found_behind (e.register + suc i) e (next ∷ es) (λ here. omega (arith, here)) ∙ ap (λ k. found k (next ∷ es)) at ∙ more.1)
+
+  -- one whole word, and then those of entries further on
+  one_covers : (e : Entry) (es : List Entry) (n : ℕ) (f : ℕ → ℕ) (i : ℕ) → Ascend IsEntry n (e ∷ es) → complete e.patch ≡ true
+      → under (found i es) (replaced e.register (acted e.patch 0) f i) ≡ under (found i (e ∷ es)) (f i)
+  one_covers e es n f i up whole = ⊎_elim
+      (λ at.
+      let none : found i es ≡ None = none_below IsEntry (e.register + 1) i es up.2 (omega (arith, at)) in
+      let here = found_at i e es at in
+      let given = replaced_at e.register (acted e.patch 0) f i at in
+      rw (here, none) (given ∙ sym (completes e.patch whole (f i))))
+      (λ away.
+      let past = found_behind i e es away in
+      let same = replaced_other e.register (acted e.patch 0) f i (λ at. away (sym at)) in
+      rw (past, same) refl)
+      (cases_eq e.register i)
+
+  -- whole words that follow each other up a run
+  pub run_covers : (e : Entry) (es : List Entry) (n : ℕ) (f : ℕ → ℕ) (i : ℕ) → Ascend IsEntry n (e ∷ es) → Linked (e ∷ es) → complete e.patch ≡ true
+      → ran e.register (words_of (e ∷ es)) f i ≡ under (found i (e ∷ es)) (f i)
+  run_covers e [] n f i up linked whole = one_covers e [] n f i up whole
+  run_covers e (next ∷ es) n f i up linked whole =
+      let more = replaced e.register (acted e.patch 0) f in
+      ap (λ k. ran k (words_of (next ∷ es)) more i) (sym linked.0.2)
+      ∙ run_covers next es (e.register + 1) more i up.2 linked.1 (whole_mask next linked.0.1)
+      ∙ one_covers e (next ∷ es) n f i up whole
+
+  again_here : (e : Entry) (es : List Entry) (i w : ℕ) → complete e.patch ≡ true → under (found i es) (under (found i es) w) ≡ under (found i es) w
+      → under (found i (e ∷ es)) (under (found i (e ∷ es)) w) ≡ under (found i (e ∷ es)) w
+  again_here e es i w whole rest = ⊎_elim
+      (λ at. let here = found_at i e es at in rw here (completes e.patch whole (acted e.patch w) ∙ sym (completes e.patch whole w)))
+      (λ away. let past = found_behind i e es away in rw past rest)
+      (cases_eq e.register i)
+
+  -- what sets whole words does no more when done again
+  pub covered_again : (e : Entry) (es : List Entry) (i w : ℕ) → Linked (e ∷ es) → complete e.patch ≡ true → under (found i (e ∷ es)) (under (found i (e ∷ es)) w) ≡ under (found i (e ∷ es)) w
+  covered_again e [] i w linked whole = again_here e [] i w whole refl
+  covered_again e (next ∷ es) i w linked whole = again_here e (next ∷ es) i w whole (covered_again next es i w linked.1 (whole_mask next linked.0.1))

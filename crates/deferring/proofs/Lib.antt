@@ -1,0 +1,4 @@
+pub mod Covering
+pub mod Sending
+pub mod DeferralMeaning
+pub mod Stepping

@@ -1,0 +1,73 @@
+-- What is found among entries whose registers ascend. Assumes nothing.
+use Rattle.std.proofs.Common.{◌≡◌, ◌≢◌, ℕ, ◌+◌, ◌^◌, ◌<◌, ◌≤◌, eqb, List, [], ◌∷◌, ◌++◌, Some, None, Option, refl, sym, ◌∙◌, ⊎_elim, arith, rules}
+use Rattle.std.proofs.lemmas.Bool.{cond-true, cond-false, eq-eqb, ne_eqb, cases_eq}
+use Rattle.chart.specs.declared.patch.Patch.{Patch}
+use Rattle.chart.proofs.Masked.{acted_fits}
+use Rattle.entries.specs.Entries.{IsEntry, Ascend, found, under}
+use Rattle.entries.specs.declared.entry.Entry.{Entry}
+
+-- a patch of 16-bit words
+abbrev pub FitsWord : Patch → Type 0
+FitsWord p = (p.mask < 2 ^ 16) × (p.bits < 2 ^ 16)
+
+-- at its own register an entry is found, and at another what follows it
+pub found_at : (i : ℕ) (e : Entry) (es : List Entry) → e.register ≡ i → found i (e ∷ es) ≡ Some e.patch
+found_at i e es is = cond-true (eqb e.register i) _ _ (eq-eqb e.register i is)
+
+pub found_behind : (i : ℕ) (e : Entry) (es : List Entry) → e.register ≢ i → found i (e ∷ es) ≡ found i es
+found_behind i e es ne = cond-false (eqb e.register i) _ _ (ne_eqb e.register i ne)
+
+-- what is found among the first entries is found among all
+pub found_front : (i : ℕ) (b rest : List Entry) (p : Patch) → found i b ≡ Some p → found i (b ++ rest) ≡ Some p
+found_front i [] rest p is = absurd (search (rules, is))
+found_front i (e ∷ b) rest p is = ⊎_elim
+    (λ at. found_at i e (b ++ rest) at ∙ sym (found_at i e b at) ∙ is)
+    (λ ne. found_behind i e (b ++ rest) ne ∙ found_front i b rest p (sym (found_behind i e b ne) ∙ is))
+    (cases_eq e.register i)
+
+module _ (E : Entry → Type 0) where
+  -- nothing waits below the first register
+  pub none_below : (n i : ℕ) (es : List Entry) → Ascend E n es → i < n → found i es ≡ None
+  none_below n i [] up lt = refl
+  none_below n i (e ∷ es) up lt =
+      found_behind i e es (λ same. omega (arith, up.0)) ∙ none_below (e.register + 1) i es up.2 (omega (arith, up.0))
+
+  pub none_before : (n i : ℕ) (e : Entry) (es : List Entry) → Ascend E n (e ∷ es) → i < e.register → found i (e ∷ es) ≡ None
+  none_before n i e es up lt = found_behind i e es (λ same. omega arith) ∙ none_below (e.register + 1) i es up.2 (omega arith)
+
+  -- entries that begin further on
+  pub ascend_less : (m n : ℕ) (es : List Entry) → m ≤ n → Ascend E n es → Ascend E m es
+  ascend_less m n [] le up = tt
+  ascend_less m n (e ∷ es) le up = (omega (arith, up.0), up.1, up.2)
+
+  pub ascend_front : (n : ℕ) (b rest : List Entry) → Ascend E n (b ++ rest) → Ascend E n b
+  ascend_front n [] rest up = tt
+  ascend_front n (e ∷ b) rest up = (up.0, up.1, ascend_front (e.register + 1) b rest up.2)
+
+  pub ascend_rest : (n : ℕ) (b rest : List Entry) → Ascend E n (b ++ rest) → Ascend E n rest
+  ascend_rest n [] rest up = up
+  ascend_rest n (e ∷ b) rest up = ascend_less n (e.register + 1) rest (omega (arith, up.0)) (ascend_rest (e.register + 1) b rest up.2)
+
+  -- what is found among the rest is found among all, since no register comes again
+  pub found_rest : (n i : ℕ) (b rest : List Entry) (p : Patch) → Ascend E n (b ++ rest) → found i rest ≡ Some p → found i (b ++ rest) ≡ Some p
+  found_rest n i [] rest p up is = is
+  found_rest n i (e ∷ b) rest p up is = ⊎_elim
+      (λ at. absurd (search (rules, none_below (e.register + 1) i rest (ascend_rest (e.register + 1) b rest up.2) (omega (arith, at)), is)))
+      (λ ne. found_behind i e (b ++ rest) ne ∙ found_rest (e.register + 1) i b rest p up.2 is)
+      (cases_eq e.register i)
+
+-- what waits for a register are two words of 16 bits
+pub found_fits : (n i : ℕ) (es : List Entry) (p : Patch) → Ascend IsEntry n es → found i es ≡ Some p → FitsWord p
+found_fits n i [] p up is = absurd (search (rules, is))
+found_fits n i (e ∷ es) p up is = ⊎_elim
+    (λ at. let same : Some e.patch ≡ Some p = sym (found_at i e es at) ∙ is in search (rules, up.1.fits, same))
+    (λ ne. found_fits (e.register + 1) i es p up.2 (sym (found_behind i e es ne) ∙ is))
+    (cases_eq e.register i)
+
+patched_fits : (o : Option Patch) (w : ℕ) → ((p : Patch) → o ≡ Some p → FitsWord p) → w < 2 ^ 16 → under o w < 2 ^ 16
+patched_fits None w fits lt = lt
+patched_fits (Some p) w fits lt = acted_fits p w (fits p refl).0
+
+-- so a word of 16 bits stays one under what waits for it
+pub under_fits : (n i w : ℕ) (es : List Entry) → Ascend IsEntry n es → w < 2 ^ 16 → under (found i es) w < 2 ^ 16
+under_fits n i w es up lt = patched_fits (found i es) w (λ p. found_fits n i es p up) lt

@@ -1,0 +1,4 @@
+pub mod Finding
+pub mod Placing
+pub mod Inserting
+pub mod Cutting

@@ -1,0 +1,4 @@
+#![tactic(auto)]
+
+pub mod entry;
+pub mod table;
