@@ -1,10 +1,13 @@
 // Updates in bursts, over any port: each waits in a table, until that is full or a live register is read.
-ghost use Rattle.std.specs.Prelude.{◌≡◌, ℕ, ◌+◌, ◌<◌, ◌≤◌, ◌||◌, [], true, length};
+ghost use Rattle.std.specs.Prelude.{◌≡◌, ℕ, ◌+◌, ◌<◌, ◌≤◌, [], true, false, length, Some};
 ghost use Rattle.chart.specs.declared.class.Class.TheVariants.{Setting};
 ghost use Rattle.port.specs.Views.{Agree};
 ghost use Rattle.port.specs.Checks.{onward};
 ghost use Rattle.chart.specs.Replies.{port_reply, word_value, no_value};
-ghost use Rattle.entries.specs.Entries.{first_burst, words_of};
+ghost use Rattle.chart.specs.Patch.{complete};
+ghost use Rattle.chart.specs.declared.patch.Patch.{Patch};
+ghost use Rattle.layers.specs.Layers.{FaultIsOwed};
+ghost use Rattle.entries.specs.Entries.{first_burst, words_of, takes, found};
 ghost use Rattle.deferring.specs.Machine.{DeferralModel, DeferralSound, DeferralNew, new_deferral, passed, burst_sent, entries_sent, place_made, live_read, setting_read, deferral_steps, shown_under};
 ghost use Rattle.deferral.specs.Made.{deferral_model};
 ghost use Rattle.deferring.proofs.DeferralMeaning.{deferral_meaning};
@@ -65,6 +68,7 @@ impl<P: Port> Deferral<P> {
     #[tactic(auto, using(deferring::proofs::Stepping::sends_by, deferring::proofs::Stepping::sends_next, deferring::proofs::Stepping::sends_less))]
     fn send_burst(&mut self) -> Result<(), Refusal<Fault>>
         ensures value { (port_reply no_value result, deferral_model P.Port.model self.new) ≡ burst_sent (P.Port.steps P.Chart.Chart.classed P.Chart.Chart.resets) (deferral_model P.Port.model self.old) (first_burst self.old.table) }
+        ensures errand { FaultIsOwed (port_reply no_value result) }
         ensures fewer { 0 < length self.old.table → (port_reply no_value result).number ≡ 0 → length self.new.table < length self.old.table }
         ensures then { 0 < length self.old.table → entries_sent (P.Port.steps P.Chart.Chart.classed P.Chart.Chart.resets) (deferral_model P.Port.model self.old) ≡ onward (port_reply no_value result, deferral_model P.Port.model self.new) (entries_sent (P.Port.steps P.Chart.Chart.classed P.Chart.Chart.resets)) }
     {
@@ -79,6 +83,7 @@ impl<P: Port> Deferral<P> {
     fn send_entries(&mut self) -> Result<(), Refusal<Fault>>
         ensures value { (port_reply no_value result, deferral_model P.Port.model self.new) ≡ entries_sent (P.Port.steps P.Chart.Chart.classed P.Chart.Chart.resets) (deferral_model P.Port.model self.old) }
         ensures empties { (port_reply no_value result).number ≡ 0 → self.new.table ≡ [] }
+        ensures errand { FaultIsOwed (port_reply no_value result) }
     {
         while !self.table.is_empty() {
             self.send_burst()?;
@@ -86,11 +91,12 @@ impl<P: Port> Deferral<P> {
         Ok(())
     }
 
-    // An update that finds no place has all others sent first. Whatever becomes of them, the settings are shown as before, if they were
-    // at hand.
+    // An update that finds no place has all others sent first. Whatever becomes of them, the settings are shown as before.
     fn make_place(&mut self, register: u16, patch: Patch) -> Result<(), Refusal<Fault>>
         ensures value { (port_reply no_value result, deferral_model P.Port.model self.new) ≡ place_made (P.Port.steps P.Chart.Chart.classed P.Chart.Chart.resets) (deferral_model P.Port.model self.old) register patch }
-        ensures stands { DeferralSound P.Chart.Chart.classed P.Port.Sound (deferral_model P.Port.model self.old) → (P.Port.KEEPS || (P.Port.chip (P.Port.model self.old.below)).supply) ≡ true → Agree P.Chart.Chart.classed Setting (shown_under P.Port.shown (deferral_model P.Port.model self.new)) (shown_under P.Port.shown (deferral_model P.Port.model self.old)) }
+        ensures all { takes register patch self.old.table ≡ false → (port_reply no_value result).number ≡ 0 → self.new.table ≡ [] }
+        ensures errand { FaultIsOwed (port_reply no_value result) }
+        ensures stands { DeferralSound P.Chart.Chart.classed P.Port.Sound (deferral_model P.Port.model self.old) → Agree P.Chart.Chart.classed Setting (shown_under P.Port.shown (deferral_model P.Port.model self.new)) (shown_under P.Port.shown (deferral_model P.Port.model self.old)) }
     {
         if self.table.takes(register, patch) {
             return Ok(());
@@ -100,7 +106,8 @@ impl<P: Port> Deferral<P> {
 
     // What waits for a setting lies on the word below, which need not be read where nothing of it would be left.
     fn read_setting(&mut self, register: u16) -> Result<u16, Refusal<Fault>>
-        ensures { (port_reply word_value result, deferral_model P.Port.model self.new) ≡ setting_read (P.Port.steps P.Chart.Chart.classed P.Chart.Chart.resets) (deferral_model P.Port.model self.old) register }
+        ensures value { (port_reply word_value result, deferral_model P.Port.model self.new) ≡ setting_read (P.Port.steps P.Chart.Chart.classed P.Chart.Chart.resets) (deferral_model P.Port.model self.old) register }
+        ensures alone { (p : Patch) → found register self.old.table ≡ Some p → complete p ≡ true → P.Port.model self.new.below ≡ P.Port.model self.old.below }
     {
         match self.table.find(register) {
             None => self.below.read(register),

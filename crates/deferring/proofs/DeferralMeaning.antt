@@ -1,6 +1,6 @@
 -- A deferral has the meaning of a port, and keeps, if the port below does. Assumes nothing.
 use Rattle.std.proofs.Common.{◌≡◌, ℕ, ◌+◌, ◌^◌, ◌<◌, Bool, true, false, cond, ◌||◌, ◌⊎◌, List, [], ◌∷◌, length, Some, None, Option, sym, refl, ap, ◌∙◌, inl, inr, ⊎_elim, arith, rules}
-use Rattle.std.proofs.lemmas.Bool.{cases_eq, cond_both}
+use Rattle.std.proofs.lemmas.Bool.{cases_Bool, both_ways, cases_eq, cond_both}
 use Rattle.std.proofs.lemmas.Bool.Decides.{nat_tests}
 use Rattle.chart.specs.Patch.{acted, complete}
 use Rattle.chart.specs.Replies.{Reply, accepted}
@@ -19,9 +19,11 @@ use Rattle.port.proofs.Settled.{update_settled, run_settled}
 use Rattle.port.proofs.Replacing.{replaced_other}
 use Rattle.layers.proofs.Standing.{went_on, ended, restood, stood_still, stood_on}
 use Rattle.layers.proofs.OneByOne.{run_by_updates, run_stays, kept_by_updates}
-use Rattle.entries.specs.Entries.{found, under, takes, entered}
+use Rattle.entries.specs.Entries.{AreBursts, bursts, words_of, found, under, takes, entered}
+use Rattle.entries.specs.declared.entry.Entry.{Entry}
+use Rattle.entries.proofs.Cutting.{bursts_are}
 use Rattle.entries.proofs.Placing.{entered_is_table, entered_other, enters}
-use Rattle.deferring.specs.Machine.{DeferralModel, DeferralSound, DeferralNew, new_deferral, over, deferred, back, patched, read_back, entries_sent, live_read, read_by, class_read, place_made, changed, deferral_steps, shown_under}
+use Rattle.deferring.specs.Machine.{DeferralModel, DeferralSound, DeferralNew, new_deferral, over, deferred, back, burst_back, passed, bursts_sent, patched, read_back, entries_sent, live_read, read_by, class_read, place_made, changed, deferral_steps, shown_under}
 use Rattle.entries.proofs.Finding.{under_fits}
 use Rattle.deferring.proofs.Sending.{AllSent, all_sent}
 
@@ -149,9 +151,47 @@ module _ {class : ℕ → Class} {reset : ℕ → ℕ}
   stands m q (inl (ok, fine, none, s)) = fine.1
   stands m q (inr (failed, line, s)) = failed.2
 
+  -- what is refused before anything is sent is not accepted
+  update_says_no : (c : Class) (on : Bool) (r : Reply) → update_check keeps c on ≡ Some r → is_accepted r ≡ false
+  update_says_no c on r e = search rules
+
+  run_says_no : (first n : ℕ) (on : Bool) (r : Reply) → run_check keeps class first n on ≡ Some r → is_accepted r ≡ false
+  run_says_no first n on r e = search (rules, update_says_no)
+
+  -- a burst that comes while settings are not at hand changes nothing
+  abbrev Unmoved : M → Reply × M → Type 0
+  Unmoved b q = (is_accepted q.0 ≡ false) × (q.1 ≡ b)
+
+  run_unmoved : (b : M) (first : ℕ) (ws : List ℕ) (o : Option Reply) → run_check keeps class first (length ws) (chip b).supply ≡ o → (keeps || (chip b).supply) ≡ false → Unmoved b (step.run b first ws)
+  run_unmoved b first ws None e away = absurd (both_ways _ away (run_settled keeps class first (length ws) (chip b).supply e).at_hand)
+  run_unmoved b first ws (Some r) e away = rw (port.run_refused b first ws r e) (run_says_no first (length ws) (chip b).supply r e, refl)
+
+  update_unmoved : (b : M) (n : ℕ) (p : Patch) (o : Option Reply) → update_check keeps (class n) (chip b).supply ≡ o → (keeps || (chip b).supply) ≡ false → Unmoved b (step.update b n p)
+  update_unmoved b n p None e away = absurd (both_ways _ away (update_settled keeps (class n) (chip b).supply e).1)
+  update_unmoved b n p (Some r) e away = rw (port.update_refused b n p r e) (update_says_no (class n) (chip b).supply r e, refl)
+
+  burst_unmoved : (b : M) (e : Entry) (es : List Entry) → (keeps || (chip b).supply) ≡ false → Unmoved b (passed step b (e ∷ es))
+  burst_unmoved b e es away = cond_both (complete e.patch) _ _ (Unmoved b)
+      (λ _. run_unmoved b e.register (words_of (e ∷ es)) _ refl away)
+      (λ _. update_unmoved b e.register e.patch _ refl away)
+
+  back_unmoved : (m : D) (count : ℕ) (q : Reply × M) (next : D → Reply × D) → Unmoved m.below q → (onward (burst_back m count q) next).1 ≡ m
+  back_unmoved m count q next (refused, same) = rw (refused, same) (rw refused refl)
+
+  bursts_unmoved : (m : D) (bs : List (List Entry)) → AreBursts m.entries bs → (keeps || (chip m.below).supply) ≡ false → (bursts_sent step bs m).1 ≡ m
+  bursts_unmoved m [] are away = refl
+  bursts_unmoved m ([] ∷ bs) are away = absurd are.2
+  bursts_unmoved m ((e ∷ es) ∷ bs) are away = back_unmoved m (length (e ∷ es)) (passed step m.below (e ∷ es)) (bursts_sent step bs) (burst_unmoved m.below e es away)
+
   -- whatever was sent, and whatever was not: each setting is shown as before
-  pub sent_stands : (m k : D) (r : Reply) → S m → AtHand m → (r, k) ≡ entries_sent step m → Agree class Setting (shown_under shown k) (shown_under shown m)
-  sent_stands m k r s hand is i c = ap (λ x. shown_under shown x.1 i) is ∙ stands m (entries_sent step m) (sent m s hand) i c
+  sending_stands : (m : D) → S m → Agree class Setting (shown_under shown (entries_sent step m).1) (shown_under shown m)
+  sending_stands m s = ⊎_elim
+      (λ hand. stands m (entries_sent step m) (sent m s hand))
+      (λ away i c. ap (λ k. shown_under shown k i) (bursts_unmoved m (bursts m.entries) (bursts_are m.entries) away))
+      (cases_Bool (keeps || (chip m.below).supply))
+
+  pub sent_stands : (m k : D) (r : Reply) → S m → (r, k) ≡ entries_sent step m → Agree class Setting (shown_under shown k) (shown_under shown m)
+  sent_stands m k r s is i c = ap (λ x. shown_under shown x.1 i) is ∙ sending_stands m s i c
 
   -- a setting read below, and its word under what waits
   module _ (m : D) (n : ℕ) (s : S m) (c : class n ≡ Setting) where

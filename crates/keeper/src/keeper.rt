@@ -1,6 +1,7 @@
 // Settings that outlive the supply, over any port: each is held here, and what the port below lost is owed to it until the next live read.
 ghost use Rattle.std.specs.Prelude.{◌≡◌, ℕ, ◌+◌, ◌≤◌, false, length, take, drop, sum_by, true};
 ghost use Rattle.chart.specs.Replies.{port_reply, word_value, no_value};
+ghost use Rattle.layers.specs.Layers.{FaultIsOwed};
 ghost use Rattle.owed.specs.Runs.{marked, runs, AreRuns, tallied, SomeOwed};
 ghost use Rattle.keeping.specs.Machine.{KeeperModel, KeeperSound, KeeperNew, new_keeper, held_at, holding, sent, run_sent, runs_sent, owed_sent, live_read, changed, keeper_steps};
 ghost use Rattle.keeper.specs.Made.{keeper_model};
@@ -102,7 +103,8 @@ impl<P: Port> Keeper<P> {
     // A run of owed settings goes below; its marks go once it is accepted.
     fn send_run(&mut self, run: Run) -> Result<(), Refusal<Fault>>
         requires { run.first + run.count ≤ 128 }
-        ensures { (port_reply no_value result, keeper_model P.Port.model self.new) ≡ run_sent (P.Port.steps P.Chart.Chart.classed P.Chart.Chart.resets) (keeper_model P.Port.model self.old) run }
+        ensures value { (port_reply no_value result, keeper_model P.Port.model self.new) ≡ run_sent (P.Port.steps P.Chart.Chart.classed P.Chart.Chart.resets) (keeper_model P.Port.model self.old) run }
+        ensures errand { FaultIsOwed (port_reply no_value result) }
     {
         pass(&mut self.below, &self.held, run).map_err(on_owed)?;
         self.owed.clear(run);
@@ -112,7 +114,8 @@ impl<P: Port> Keeper<P> {
     // The runs of these marks, in order, up to the first that is refused.
     #[tactic(auto, using(owed::proofs::Running::runs_within))]
     fn send_runs(&mut self, marks: Marks) -> Result<(), Refusal<Fault>>
-        ensures { (port_reply no_value result, keeper_model P.Port.model self.new) ≡ runs_sent (P.Port.steps P.Chart.Chart.classed P.Chart.Chart.resets) (runs marks) (keeper_model P.Port.model self.old) }
+        ensures value { (port_reply no_value result, keeper_model P.Port.model self.new) ≡ runs_sent (P.Port.steps P.Chart.Chart.classed P.Chart.Chart.resets) (runs marks) (keeper_model P.Port.model self.old) }
+        ensures errand { FaultIsOwed (port_reply no_value result) }
     {
         for run in marks.runs() {
             self.send_run(run)?;
@@ -123,6 +126,7 @@ impl<P: Port> Keeper<P> {
     // All that is owed goes below; accepted, nothing is owed any more.
     fn send_owed(&mut self) -> Result<(), Refusal<Fault>>
         ensures value { (port_reply no_value result, keeper_model P.Port.model self.new) ≡ owed_sent (P.Port.steps P.Chart.Chart.classed P.Chart.Chart.resets) (keeper_model P.Port.model self.old) }
+        ensures errand { FaultIsOwed (port_reply no_value result) }
         ensures settles { KeeperSound P.Port.KEEPS P.Chart.Chart.classed P.Chart.Chart.resets P.Port.shown P.Port.chip P.Port.Sound (keeper_model P.Port.model self.old) → (P.Port.chip (P.Port.model self.old.below)).supply ≡ true → (port_reply no_value result).number ≡ 0 → (i : ℕ) → marked self.new.owed i ≡ false }
     {
         self.send_runs(self.owed)

@@ -1,5 +1,5 @@
 -- What every port that stands on another port does alike. Assumes nothing.
-use Rattle.std.specs.Prelude.{ℕ, List, [], ◌∷◌}
+use Rattle.std.specs.Prelude.{◌≡◌, ℕ, List, [], ◌∷◌, slice_index}
 use Rattle.chart.specs.Replies.{Reply, accepted}
 use Rattle.port.specs.Checks.{onward}
 
@@ -12,6 +12,10 @@ fault_owed (cause ∷ register ∷ errand ∷ more) = cause ∷ register ∷ 1 �
 
 abbrev pub on_owed : Reply → Reply
 on_owed r = record { number = r.number; values = fault_owed r.values }
+
+-- a fault is told, if one is, with errand 1
+abbrev pub FaultIsOwed : Reply → Type 0
+FaultIsOwed r = r.number ≡ 6 → slice_index r.values 2 ≡ 1
 
 -- what a layer has for the port below, sent piece by piece in its order, up to the first that is refused
 abbrev pub in_turn : {A K : Type 0} → (K → A → Reply × K) → List A → K → Reply × K

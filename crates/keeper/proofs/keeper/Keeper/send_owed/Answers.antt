@@ -8,4 +8,4 @@ returns-clause-settles g c sound on =
     let chart = g.P.Chart.Chart in
     let port = g.P.Port in
     sent_settles g.met.P.Chart.Chart.rules port.KEEPS (port.steps chart.classed chart.resets) port.shown port.chip port.Sound (port.New chart.resets) g.met.P.Port.meaning
-    (keeper_model port.model c.args.self.now) (keeper_model port.model c.send_runs.new.self) (port_reply no_value c.send_runs.result) sound on c.send_runs.ensures
+    (keeper_model port.model c.args.self.now) (keeper_model port.model c.send_runs.new.self) (port_reply no_value c.send_runs.result) sound on c.send_runs.ensures.value
