@@ -1,5 +1,5 @@
 // Updates in bursts, over any port: each waits in a table, until that is full or a live register is read.
-ghost use Rattle.std.specs.Prelude.{◌≡◌, ℕ, ◌+◌, ◌<◌, ◌≤◌, [], true, false, length, Some};
+ghost use Rattle.std.specs.Prelude.{◌≡◌, ◌<◌, ◌≤◌, [], true, false, length, Some};
 ghost use Rattle.chart.specs.declared.class.Class.TheVariants.{Setting};
 ghost use Rattle.port.specs.Views.{Agree};
 ghost use Rattle.port.specs.Checks.{onward};

@@ -1,5 +1,5 @@
 // The updates that wait, ascending by register, one for each.
-ghost use Rattle.std.specs.Prelude.{◌≡◌, ◌≤◌, ◌<◌, ◌^◌, true, [], drop, length, ◌==◌};
+ghost use Rattle.std.specs.Prelude.{◌≡◌, ◌≤◌, true, [], drop, length, ◌==◌};
 ghost use Rattle.entries.specs.Entries.{IsTable, found, takes, placed, entered, Enters, bursts, first_burst, AreBursts};
 ghost use Rattle.entries.specs.Places.{first_patch, place, links};
 

@@ -1,5 +1,5 @@
 // Settings that outlive the supply, over any port: each is held here, and what the port below lost is owed to it until the next live read.
-ghost use Rattle.std.specs.Prelude.{◌≡◌, ℕ, ◌+◌, ◌≤◌, false, length, take, drop, sum_by, true};
+ghost use Rattle.std.specs.Prelude.{◌≡◌, ℕ, ◌+◌, ◌≤◌, false, take, drop, sum_by, true};
 ghost use Rattle.chart.specs.Replies.{port_reply, word_value, no_value};
 ghost use Rattle.layers.specs.Layers.{FaultIsOwed};
 ghost use Rattle.owed.specs.Runs.{marked, runs, AreRuns, tallied, SomeOwed};
