@@ -62,6 +62,11 @@ reply shown r = reply_by failure_values shown r
 abbrev pub port_reply : {T : Type 0} → (T → List ℕ) → Result T (Refusal Fault) → Reply
 port_reply shown r = reply_by fault_values shown r
 
+-- of one transfer on a wire, of which nothing but the cause is known where it failed
+abbrev pub wire_reply : {T : Type 0} → (T → List ℕ) → Result T Cause → Reply
+wire_reply shown (Ok v) = accepted (shown v)
+wire_reply shown (Err c) = refused 6 (cause_number c ∷ [])
+
 -- the values of an answered word, and of an answer that says no more than yes
 abbrev pub word_value : ℕ → List ℕ
 word_value w = w ∷ []

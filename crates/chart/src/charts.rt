@@ -8,7 +8,7 @@ use crate::class::{Chart, Class};
 pub struct Head;
 
 impl Chart for Head {
-    ghost COUNT = { 128 };
+    ghost counted = { 128 };
 
     ghost classed = { head_class };
 
@@ -16,7 +16,9 @@ impl Chart for Head {
 
     ghost rules = { Prim.search rules };
 
-    const COUNT: u16 = 128;
+    fn count() -> u16 {
+        128
+    }
 
     fn class(register: u16) -> Class {
         match register {
@@ -39,7 +41,7 @@ impl Chart for Head {
 pub struct Valve;
 
 impl Chart for Valve {
-    ghost COUNT = { 32 };
+    ghost counted = { 32 };
 
     ghost classed = { valve_class };
 
@@ -47,7 +49,9 @@ impl Chart for Valve {
 
     ghost rules = { Prim.search rules };
 
-    const COUNT: u16 = 32;
+    fn count() -> u16 {
+        32
+    }
 
     fn class(register: u16) -> Class {
         match register {

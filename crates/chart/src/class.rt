@@ -12,14 +12,15 @@ pub enum Class {
 }
 
 pub trait Chart {
-    ghost COUNT: { ℕ };
+    ghost counted: { ℕ };
 
     ghost classed: { ℕ → Class };
 
     ghost resets: { ℕ → ℕ };
 
-    // All registers have numbers below the count.
-    const COUNT: u16;
+    // All registers have numbers below this, from 1 to 128.
+    fn count() -> u16
+        ensures { result ≡ counted };
 
     fn class(register: u16) -> Class
         ensures { result ≡ classed register };
@@ -28,5 +29,5 @@ pub trait Chart {
     fn reset(register: u16) -> u16
         ensures { result ≡ resets register };
 
-    ghost rules: { ChartRules COUNT classed resets };
+    ghost rules: { ChartRules counted classed resets };
 }

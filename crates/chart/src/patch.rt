@@ -1,6 +1,6 @@
 // A masked update of a 16-bit word: the bits under the mask are replaced, the others stand.
 ghost use Rattle.std.specs.Prelude.{◌≡◌};
-ghost use Rattle.chart.specs.Patch.{acted, joined, idle, complete, setting_to, ActsByBits, JoinActs, Idles, Completes, Sets};
+ghost use Rattle.chart.specs.Patch.{acted, joined, idle, complete, setting_to, ActsByBits, JoinsByBits, JoinActs, Idles, Completes, Sets};
 
 // By default it changes nothing.
 #[derive(Debug, Default, Clone, Copy, PartialEq, Eq)]
@@ -32,9 +32,10 @@ impl Patch {
     }
 
     // The one patch that does what `self` and then `later` do: the later bits lie on top where both masks reach.
-    #[tactic(auto, using(crate::proofs::Masked::join_acts))]
+    #[tactic(auto, using(crate::proofs::Masked::joins_by_bits, crate::proofs::Masked::join_acts))]
     pub fn join(self, later: Patch) -> Patch
         ensures value { result ≡ joined self later }
+        ensures bits { JoinsByBits self later result }
         ensures law { JoinActs self later result }
     {
         Patch {

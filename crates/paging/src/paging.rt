@@ -161,7 +161,7 @@ impl<B: Bus> Port for Paging<B> {
     ghost meaning = { let chart = B.Chart.Chart in
         let rules = B.Chart.Chart.rules in
         let bus = B.Bus in
-        paging_meaning rules (bus.steps chart.classed chart.resets) bus.chip bus.Sound (bus.New chart.resets) (bus.meaning chart.COUNT chart.classed chart.resets rules) };
+        paging_meaning rules (bus.steps chart.classed chart.resets) bus.chip bus.Sound (bus.New chart.resets) (bus.meaning chart.counted chart.classed chart.resets rules) };
 
     fn bus(&self) -> &B {
         &self.bus

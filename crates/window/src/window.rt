@@ -1,5 +1,5 @@
 // A chip whose words lie in memory that is lent to the bus. No transfer on it fails.
-ghost use Rattle.std.specs.Prelude.{◌≡◌, ◌+◌, ◌≤◌, length};
+ghost use Rattle.std.specs.Prelude.{◌≡◌, ◌+◌, ◌≤◌, length, IfErr};
 ghost use Rattle.chip.specs.Words.{rising, all_stored};
 ghost use Rattle.bus.specs.Windows.{WindowModel, window_steps, window_chip, window_trace, WindowSound, WindowNew};
 ghost use Rattle.bus.proofs.WindowMeaning.{window_meaning};
@@ -31,9 +31,11 @@ impl<'a, C> Model for Window<'a, C> {
 }
 
 impl<'a, C: Chart> Window<'a, C> {
-    // A new chip in this memory; memory of another size is handed back.
+    // A new chip in this memory; memory of another size is handed back, as the very reference that
+    // was given, so that whoever lent it knows it again.
     pub fn new(words: &'a mut [u16]) -> Result<Window<'a, C>, Unmade<&'a mut [u16]>>
-        ensures { WindowMade C.Chart.resets words.old result }
+        ensures made { WindowMade C.Chart.resets words.old result }
+        ensures same_memory { IfErr result (λ e. e.given.ghost_name ≡ words.entry.ghost_name) }
     {
         if words.len() != memory::WORDS {
             return Err(Unmade {

@@ -1,5 +1,6 @@
 pub mod Passing
 pub mod Fetching
 pub mod Recovering
+pub mod Arriving
 pub mod Effects
 pub mod Rooms

@@ -25,7 +25,7 @@ idle_catches (b ∷ bs) mark t = ⊎_elim (λ e. rw e) (λ e. rw e (idle_catches
 abbrev words_in : ℕ → ℕ → ℕ
 words_in mark n = cond (good mark (2 * n)) n ((mark - 1) / 2)
 
-abbrev ready : ℕ → ℕ → Target
+abbrev pub ready : ℕ → ℕ → Target
 ready a p = record { address = a; state = Ready; pointer = p % 64 }
 
 -- a target that is ready stores each word whose low byte is acknowledged
@@ -59,7 +59,8 @@ own_catches t raw mark ws h =
     grind (arith, nat_tests)
 
 -- a target that another address is sent to; no address to write to is one to read from
-other_catches : (t : Target) (a raw mark : ℕ) (ws : List ℕ) → a < 128 → t.address < 128 → (t.address ≡ a → ⊥)
+pub other_catches : (t : Target) (a raw mark : ℕ) (ws : List ℕ)
+    → a < 128 → t.address < 128 → (t.address ≡ a → ⊥)
     → caught (sent (put_bytes a raw ws) mark) (in_state Listening t) ≡ []
 other_catches t a raw mark ws ha ht ne =
     let no_write : (write_byte a ≡ write_byte t.address → ⊥) = λ same. ne (omega arith) in

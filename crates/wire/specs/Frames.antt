@@ -1,5 +1,6 @@
 -- The frames of the I2C-bus, event by event, and how they pass. Assumes nothing.
 use Rattle.std.specs.Prelude.{◌≡◌, ℕ, ◌+◌, ◌-◌, ◌*◌, ◌/◌, ◌%◌, ◌<◌, ◌≤◌, Bool, true, false, if◌then◌else◌, ◌||◌, List, [], ◌∷◌, ◌++◌, length, take, Ok, Err, Result, ◌==◌, nat_lt, slice_set}
+use Rattle.chart.specs.Replies.{Reply, accepted, refused, cause_number}
 use Rattle.chart.specs.declared.refusal.Cause.{Cause}
 use Rattle.chart.specs.declared.refusal.Cause.TheVariants.{Address, Data}
 use Rattle.chip.specs.Words.{loaded, rising, fresh}
@@ -21,6 +22,11 @@ good mark n = mark == 0 || nat_lt n mark
 -- what a transfer under a mark answers in which the target must acknowledge n bytes: v, or why it failed
 abbrev pub answer : {T : Type 0} → ℕ → ℕ → T → Cause → Result T Cause
 answer mark n v cause = if good mark n then Ok v else Err cause
+
+-- and its reply, with these values where it is good
+abbrev pub transfer_reply : ℕ → ℕ → List ℕ → Cause → Reply
+transfer_reply mark n vs cause =
+    if good mark n then accepted vs else refused 6 (cause_number cause ∷ [])
 
 -- A put has an address in its first byte, a get in its first and its third.
 abbrev pub cause_of_put : ℕ → Cause

@@ -1,8 +1,13 @@
 // The controller's end of the wire, and what passes to the chip at the other end.
-ghost use Rattle.std.specs.Prelude.{◌≡◌, ◌+◌, ◌*◌, length};
+ghost use Rattle.std.specs.Prelude.{◌≡◌, ◌+◌, ◌*◌, [], ◌∷◌, length, OnOk};
+ghost use Rattle.chart.specs.Replies.{wire_reply, word_value, no_value};
 ghost use Rattle.i2c_target.specs.declared.event.Event.TheVariants.{Byte};
 ghost use Rattle.i2c_target.specs.Targets.{given};
-ghost use Rattle.wire.specs.Frames.{own, pointed_at, passed, carried, sent, answer, cause_of_put, cause_of_get, word_bytes, put_bytes, head_bytes, put_frame, fetching, get_frame, Recovered, Untouched, new_wired, with_register};
+ghost use Rattle.wire.specs.Frames.{own, pointed_at, passed, carried, new_wired, with_register};
+ghost use Rattle.wire.specs.Frames.{sent, word_bytes, put_bytes, head_bytes, fetching};
+ghost use Rattle.wire.specs.Frames.{answer, transfer_reply, cause_of_put, cause_of_get};
+ghost use Rattle.wire.specs.Frames.{put_frame, get_frame, Recovered, Untouched};
+ghost use Rattle.wire.specs.Requests.{get_request, put_request, Arrives};
 
 use chart::class::Chart;
 use chart::refusal::Cause;
@@ -141,11 +146,14 @@ impl Wire {
     }
 
     // A put of words from a raw address on, as one transfer; answers which kind of byte was not acknowledged, if any.
-    #[tactic(auto, using(crate::proofs::Recovering::recovered))]
+    #[tactic(auto, using(crate::proofs::Recovering::recovered, crate::proofs::Arriving::of_put))]
     pub fn put(&mut self, raw: u8, words: &[u16], mark: u8) -> Result<(), Cause>
-        ensures value { result ≡ answer mark (2 + 2 * length words.now) tt (cause_of_put mark) }
+        ensures value { wire_reply no_value result
+            ≡ transfer_reply mark (2 + 2 * length words.now) [] (cause_of_put mark) }
         ensures wire { self.new ≡ carried (put_frame (own self.old) raw words.now mark) self.old }
         ensures recovered { Recovered (own self.old) raw words.now mark }
+        ensures arrives { OnOk result (Arrives (put_request (own self.old) raw words.now)
+            (put_frame (own self.old) raw words.now mark)) }
     {
         self.pass(Event::Start);
         let answer = self.send_put(raw, words, usize::from(mark));
@@ -169,10 +177,14 @@ impl Wire {
     }
 
     // A get of the word at a raw address, as one transfer.
+    #[tactic(auto, using(crate::proofs::Arriving::of_get))]
     pub fn get(&mut self, raw: u8, mark: u8) -> Result<u16, Cause>
-        ensures value { result ≡ answer mark 3 (pointed_at self.old raw) (cause_of_get mark) }
+        ensures value { wire_reply word_value result
+            ≡ transfer_reply mark 3 (pointed_at self.old raw ∷ []) (cause_of_get mark) }
         ensures wire { self.new ≡ carried (get_frame (own self.old) raw (pointed_at self.old raw) mark) self.old }
         ensures untouched { Untouched (own self.old) raw (pointed_at self.old raw) mark }
+        ensures arrives { OnOk result (Arrives (get_request (own self.old) raw)
+            (get_frame (own self.old) raw (pointed_at self.old raw) mark)) }
     {
         let word = self.fetch(raw, usize::from(mark));
         self.pass(Event::Stop);

@@ -12,4 +12,6 @@ returns-in_ok-trace-in-I2c g c =
 pub returns-in-Window : goal.returns-in-Window
 returns-in-Window g c =
     rw c.in-Window.is
-    (window_told g.C.Chart.classed g.C.Chart.resets (replicate 129 0) (job_of c.args.sheet.now.calls) c.new.result c.play-in-Window.result c.new.ensures refl c.play-in-Window.ensures)
+    (window_told g.C.Chart.classed g.C.Chart.resets (replicate 129 0)
+    (job_of c.args.sheet.now.calls) c.new.result c.play-in-Window.result
+    c.new.ensures.made refl c.play-in-Window.ensures)

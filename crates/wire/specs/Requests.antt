@@ -1,0 +1,69 @@
+-- What a transfer asks of a target, and what a target makes of it. Assumes nothing.
+use Rattle.std.specs.Prelude.{◌≡◌, ◌≢◌, ℕ, ◌+◌, ◌<◌, ◌≤◌, ◌↔◌, IsTrue, Some, None, Option}
+use Rattle.std.specs.Prelude.{Bool, true, false, if◌then◌else◌, List, [], ◌∷◌, ◌++◌, map, length}
+use Rattle.i2c_target.specs.declared.event.Event.{Event}
+use Rattle.i2c_target.specs.declared.event.Event.TheVariants.{Start}
+use Rattle.i2c_target.specs.declared.target.State.{State}
+use Rattle.i2c_target.specs.declared.target.State.TheVariants.{Idle, Ready, Giving}
+use Rattle.i2c_target.specs.declared.target.Target.{Target}
+use Rattle.i2c_target.specs.Targets.{read_byte, in_state, moved}
+use Rattle.wire.specs.Frames.{sent, put_bytes, caught}
+
+-- what the controller's end puts in: to which address, whether it reads, at which raw address,
+-- and the words that it writes
+pub record Request : Type 0 where
+  pub address : ℕ
+  pub reads : Bool
+  pub raw : ℕ
+  pub words : List ℕ
+
+abbrev pub get_request : ℕ → ℕ → Request
+get_request a raw = record { address = a; reads = true; raw = raw; words = [] }
+
+abbrev pub put_request : ℕ → ℕ → List ℕ → Request
+put_request a raw ws = record { address = a; reads = false; raw = raw; words = ws }
+
+-- An address has seven bits, and what is read or written lies below raw address 64. A request that
+-- reads has no words, and any other has some.
+pub record IsSendable (q : Request) : Type 0 where
+  pub address : q.address < 128
+  pub raw : q.raw < 64
+  pub end : q.raw + length q.words ≤ 64
+  pub words : IsTrue q.reads ↔ (q.words ≡ [])
+
+-- the events of a good transfer up to the last byte that the controller sends: all bytes of a put,
+-- and where it reads a repeated start and the address to read from
+abbrev pub asking : Request → List Event
+asking q =
+    Start ∷ (sent (put_bytes q.address q.raw q.words) 0
+    ++ (if q.reads then Start ∷ sent (read_byte q.address ∷ []) 0 else []))
+
+-- what a target has become when events have passed
+abbrev pub heard : List Event → Target → Target
+heard [] t = t
+heard (e ∷ es) t = heard es (moved e t)
+
+-- by the state that the target is in
+abbrev pub taken_in : State → Target → List (ℕ × ℕ) → Option Request
+taken_in Giving t [] = Some (get_request t.address t.pointer)
+taken_in Ready t (s ∷ more) = Some (put_request t.address s.0 (s.1 ∷ map (λ m. m.1) more))
+taken_in _ t stored = None
+
+-- What a target has taken out of events, by what they made it store and become: it is to give the
+-- word that it points at, or has stored words and is ready for more. Else it took nothing out.
+abbrev pub taken_out : List Event → Target → Option Request
+taken_out es t = let now = heard es t in taken_in now.state now (caught es t)
+
+-- A request arrives: what the controller's end put in, the chip's end takes out, whatever state a
+-- target was in.
+pub record Arrives (q : Request) (es : List Event) : Type 0 where
+  -- these events begin with those that ask for the request
+  pub begins : (rest : List Event) × (es ≡ asking q ++ rest)
+  -- from those the target that has the address takes out the request
+  pub taken : IsSendable q → (t : Target) → t.address ≡ q.address → taken_out (asking q) t ≡ Some q
+  -- and where it reads, that target is about to give the word at the raw address
+  pub gives : IsSendable q → (t : Target) → t.address ≡ q.address → IsTrue q.reads
+      → heard (asking q) t ≡ record { address = q.address; state = Giving; pointer = q.raw }
+  -- every other target stores nothing and takes no part
+  pub others : IsSendable q → (t : Target) → t.address < 128 → t.address ≢ q.address
+      → (caught (asking q) t ≡ []) × (heard (asking q) t ≡ in_state Idle t)
