@@ -9,6 +9,7 @@ ghost use Rattle.chart.specs.declared.patch.Patch.{Patch};
 ghost use Rattle.layers.specs.Layers.{FaultIsOwed};
 ghost use Rattle.entries.specs.Entries.{first_burst, words_of, takes, found};
 ghost use Rattle.deferring.specs.Machine.{DeferralModel, DeferralSound, DeferralNew, new_deferral, passed, burst_sent, entries_sent, place_made, live_read, setting_read, deferral_steps, shown_under};
+ghost use Rattle.deferring.specs.Laws.{DeferralLaws};
 ghost use Rattle.deferral.specs.Made.{deferral_model};
 ghost use Rattle.deferring.proofs.DeferralMeaning.{deferral_meaning};
 
@@ -39,24 +40,28 @@ fn words_of(burst: &[Entry]) -> ArrayVec<u16, MOST_ENTRIES>
     words
 }
 
-// A burst goes below: as a run where its entries set whole words, and else as the one update that it is.
+// A burst goes below: one entry as the update that it is, more of them as a run of their words.
 fn pass<P: Port>(below: &mut P, burst: &[Entry]) -> Result<(), Refusal<Fault>>
     requires { length burst.now ≤ 16 }
     ensures { (port_reply no_value result, P.Port.model below.new) ≡ passed (P.Port.steps P.Chart.Chart.classed P.Chart.Chart.resets) (P.Port.model below.old) burst.now }
 {
     match burst {
         [] => Ok(()),
-        [first, ..] if first.patch.is_complete() => below.run(first.register, &words_of(burst)),
-        [first, ..] => below.update(first.register, first.patch),
+        [entry] => below.update(entry.register, entry.patch),
+        [first, ..] => below.run(first.register, &words_of(burst)),
     }
 }
 
 // The clauses go through `deferral_model`, and name the steps at the chart of the port below, as those of a keeper do.
 impl<P: Port> Deferral<P> {
-    // Over a new port this is a new port.
+    // Over a new port this is a new port. The steps that its calls are held to keep the rules.
     pub fn new(below: P) -> Deferral<P>
         ensures value { deferral_model P.Port.model result ≡ new_deferral (P.Port.model below) }
         ensures new { P.Port.New P.Chart.Chart.resets (P.Port.model below) → DeferralNew (P.Port.New P.Chart.Chart.resets) (deferral_model P.Port.model result) }
+        ensures laws { let chart = P.Chart.Chart in
+            let step = P.Port.steps chart.classed chart.resets in
+            let deferral = ⟦<Deferral<P> as Port>⟧.steps chart.classed chart.resets in
+            DeferralLaws step P.Port.chip P.Port.KEEPS chart.classed deferral }
     {
         Deferral {
             below,
@@ -180,7 +185,6 @@ impl<P: Port> Port for Deferral<P> {
     }
 
     fn run(&mut self, first: u16, words: &[u16]) -> Result<(), Refusal<Fault>> {
-        self.access().check_run::<P::Chart>(first, words.len())?;
         self.update_each(first, words)
     }
 

@@ -1,15 +1,19 @@
 -- What waits in the first entries of a table, and what in the rest of it. Assumes nothing.
-use Rattle.std.proofs.Common.{◌≡◌, ℕ, eqb, zero, suc, ◌+◌, ◌<◌, true, false, List, [], ◌∷◌, ◌++◌, length, Some, None, sym, refl, ap, ◌∙◌, ⊎_elim, add-zero, arith, lit<}
-use Rattle.std.proofs.lemmas.Bool.{cond-true, eq-eqb, cases_eq, both_ways}
+use Rattle.std.proofs.Common.{◌≡◌, ℕ, eqb, zero, suc, ◌+◌, ◌<◌, true, List, [], ◌∷◌, ◌++◌, length}
+use Rattle.std.proofs.Common.{Some, None, sym, refl, ap, ◌∙◌, ⊎_elim, add-zero, arith, lit<}
+use Rattle.std.proofs.lemmas.Bool.{cond-true, eq-eqb, cases_eq}
 use Rattle.chart.specs.Patch.{acted, complete}
 use Rattle.chart.specs.declared.patch.Patch.{Patch}
 use Rattle.chart.proofs.Masked.{acted_fits, completes}
 use Rattle.chip.specs.Words.{Fit}
+use Rattle.chart.specs.Replies.{Reply}
+use Rattle.port.specs.Meaning.{PortSteps}
 use Rattle.port.specs.Views.{replaced, ran}
 use Rattle.port.proofs.Replacing.{replaced_other}
 use Rattle.entries.specs.Entries.{IsEntry, Ascend, found, under, Linked, words_of}
 use Rattle.entries.specs.declared.entry.Entry.{Entry}
 use Rattle.entries.proofs.Finding.{found_at, found_behind, none_below, ascend_rest}
+use Rattle.deferring.specs.Machine.{passed}
 
 -- a word under a whole table is that word under its front, and then under its rest
 pub under_both : (n i w : ℕ) (b rest : List Entry) → Ascend IsEntry n (b ++ rest) → under (found i (b ++ rest)) w ≡ under (found i rest) (under (found i b) w)
@@ -44,12 +48,17 @@ words_fit n (e ∷ es) up (suc k) = words_fit (e.register + 1) es up.2 k
 -- Entries of which each leads to the next.
 module _ where
   -- an entry that another follows has the whole mask, and so has that one
-  whole_mask : (e : Entry) → e.patch.mask ≡ 65535 → complete e.patch ≡ true
+  pub whole_mask : (e : Entry) → e.patch.mask ≡ 65535 → complete e.patch ≡ true
   whole_mask e is = eq-eqb e.patch.mask 65535 is
 
-  pub alone : (e : Entry) (es : List Entry) → Linked (e ∷ es) → complete e.patch ≡ false → es ≡ []
-  alone e [] linked part = refl
-  alone e (next ∷ es) linked part = absurd (both_ways _ part (whole_mask e linked.0.0))
+  -- by how a burst goes below: one entry as an update; more, which have the whole mask, as a run
+  pub by_passing : {M : Type 0} (step : PortSteps M) (b : M) (P : Reply × M → Type 0)
+      → (e : Entry) (es : List Entry) → Linked (e ∷ es)
+      → (es ≡ [] → P (step.update b e.register e.patch))
+      → (complete e.patch ≡ true → P (step.run b e.register (words_of (e ∷ es))))
+      → P (passed step b (e ∷ es))
+  by_passing step b P e [] linked one more = one refl
+  by_passing step b P e (next ∷ es) linked one more = more (whole_mask e linked.0.0)
 
   -- a number for each of them
   pub found_linked : (e : Entry) (es : List Entry) (i : ℕ) → Linked (e ∷ es) → i < length (e ∷ es) → (p : Patch) × (found (e.register + i) (e ∷ es) ≡ Some p)

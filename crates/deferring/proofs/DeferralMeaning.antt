@@ -171,9 +171,9 @@ module _ {class : ℕ → Class} {reset : ℕ → ℕ}
   update_unmoved b n p (Some r) e away = rw (port.update_refused b n p r e) (update_says_no (class n) (chip b).supply r e, refl)
 
   burst_unmoved : (b : M) (e : Entry) (es : List Entry) → (keeps || (chip b).supply) ≡ false → Unmoved b (passed step b (e ∷ es))
-  burst_unmoved b e es away = cond_both (complete e.patch) _ _ (Unmoved b)
-      (λ _. run_unmoved b e.register (words_of (e ∷ es)) _ refl away)
-      (λ _. update_unmoved b e.register e.patch _ refl away)
+  burst_unmoved b e [] away = update_unmoved b e.register e.patch _ refl away
+  burst_unmoved b e (next ∷ es) away =
+      run_unmoved b e.register (words_of (e ∷ next ∷ es)) _ refl away
 
   back_unmoved : (m : D) (count : ℕ) (q : Reply × M) (next : D → Reply × D) → Unmoved m.below q → (onward (burst_back m count q) next).1 ≡ m
   back_unmoved m count q next (refused, same) = rw (refused, same) (rw refused refl)

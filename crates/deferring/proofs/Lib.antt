@@ -2,3 +2,4 @@ pub mod Covering
 pub mod Sending
 pub mod DeferralMeaning
 pub mod Stepping
+pub mod Lawful

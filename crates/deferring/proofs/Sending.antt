@@ -2,7 +2,6 @@
 use Rattle.std.proofs.Common.{◌≡◌, ℕ, ◌+◌, ◌<◌, ◌≤◌, Bool, true, false, ◌||◌, ◌⊎◌, List, [], ◌∷◌, ◌++◌, length, drop, Some, None, sym, refl, ap, subst, ◌∙◌, inl, inr, ⊎_elim, arith, rules}
 use Rattle.std.proofs.Math.Seq.{drop-append_seam}
 use Rattle.std.proofs.lemmas.List.{length-append, length-map}
-use Rattle.std.proofs.lemmas.Bool.{cond_both}
 use Rattle.chart.specs.Patch.{acted, complete}
 use Rattle.chart.specs.Replies.{Reply, accepted}
 use Rattle.chart.specs.declared.class.Class.{Class}
@@ -20,7 +19,8 @@ use Rattle.entries.specs.declared.entry.Entry.{Entry}
 use Rattle.entries.proofs.Cutting.{bursts_are}
 use Rattle.entries.proofs.Finding.{found_at, found_front, found_rest, ascend_front, ascend_rest}
 use Rattle.deferring.specs.Machine.{DeferralModel, DeferralSound, over, burst_back, passed, burst_sent, bursts_sent, entries_sent, shown_under}
-use Rattle.deferring.proofs.Covering.{under_both, words_fit, alone, found_linked, run_covers, covered_again, one_covered}
+use Rattle.deferring.proofs.Covering.{under_both, words_fit, by_passing, found_linked, run_covers}
+use Rattle.deferring.proofs.Covering.{covered_again, one_covered}
 
 -- a reply is not both accepted and a fault
 pub not_both : {class : ℕ → Class} (r : Reply) → Faulted class r → r ≡ accepted [] → ⊥
@@ -88,18 +88,18 @@ module _ {class : ℕ → Class}
     here = settings e.register e.patch (found_at e.register e es refl)
 
     went : Went b (e ∷ es) (passed step b (e ∷ es))
-    went = cond_both (complete e.patch) _ _ (Went b (e ∷ es))
+    went = by_passing step b (Went b (e ∷ es)) e es linked
+        (λ one. update_went one (step.update b e.register e.patch)
+        (λ k off. port.kept_update b e.register e.patch sound k off here)
+        (port.updated b e.register e.patch sound are.1.fits (search (rules, here, hand))))
         (λ whole. run_went whole (step.run b e.register words)
         (λ k off. port.kept_run b e.register words sound (words_fit n (e ∷ es) are) k off (ap (run_check keeps class e.register (length words)) (sym off) ∙ goes))
         (port.ran b e.register words sound (words_fit n (e ∷ es) are) goes))
-        (λ part. update_went (alone e es linked part) (step.update b e.register e.patch)
-        (λ k off. port.kept_update b e.register e.patch sound k off here)
-        (port.updated b e.register e.patch sound are.1.fits (search (rules, here, hand))))
 
     stays : Sound (passed step b (e ∷ es)).1
-    stays = cond_both (complete e.patch) _ _ (λ (q : Reply × M). Sound q.1)
+    stays = by_passing step b (λ q. Sound q.1) e es linked
+        (λ one. port.update_sound b e.register e.patch sound are.1.fits)
         (λ whole. port.run_sound b e.register words sound (words_fit n (e ∷ es) are))
-        (λ part. port.update_sound b e.register e.patch sound are.1.fits)
 
   -- what a burst alone leaves: its entries are gone, or a transfer failed and they stand
   abbrev pub BurstSends : DeferralModel M → List Entry → Reply × DeferralModel M → Type 0

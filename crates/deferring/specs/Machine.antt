@@ -7,10 +7,10 @@ use Rattle.chart.specs.declared.class.Class.TheVariants.{Setting}
 use Rattle.chart.specs.declared.patch.Patch.{Patch}
 use Rattle.bus.specs.Chips.{Chip}
 use Rattle.bus.specs.Checks.{unless}
-use Rattle.port.specs.Checks.{read_check, update_check, run_check, onward}
+use Rattle.port.specs.Checks.{read_check, update_check, onward, in_turn}
 use Rattle.port.specs.Meaning.{PortSteps}
-use Rattle.port.specs.OneByOne.{one_by_one}
-use Rattle.layers.specs.Layers.{on_owed, in_turn}
+use Rattle.port.specs.OneByOne.{each_updated}
+use Rattle.layers.specs.Layers.{on_owed}
 use Rattle.entries.specs.Entries.{IsTable, found, under, takes, entered, bursts, words_of}
 use Rattle.entries.specs.declared.entry.Entry.{Entry}
 
@@ -48,10 +48,11 @@ abbrev pub read_back : {M : Type 0} → DeferralModel M → Patch → Reply × M
 read_back m p q = onward (back m q) (λ k. (patched p q.0, k))
 
 module _ {M : Type 0} (step : PortSteps M) where
-  -- A burst goes below: as a run where its entries set whole words, and else as the one update that it is.
+  -- A burst goes below: one entry as the update that it is, more of them as a run of their words.
   abbrev pub passed : M → List Entry → Reply × M
   passed b [] = (accepted [], b)
-  passed b (e ∷ es) = cond (complete e.patch) (step.run b e.register (words_of (e ∷ es))) (step.update b e.register e.patch)
+  passed b (e ∷ []) = step.update b e.register e.patch
+  passed b (e ∷ next ∷ es) = step.run b e.register (words_of (e ∷ next ∷ es))
 
   abbrev pub burst_sent : DeferralModel M → List Entry → Reply × DeferralModel M
   burst_sent m burst = burst_back m (length burst) (passed m.below burst)
@@ -103,7 +104,7 @@ module _ {M : Type 0} (step : PortSteps M) where
     deferral_steps = record {
       read = λ m n. unless (read_check keeps (class n) (on m)) m (class_read m n (class n));
       update = updated;
-      run = λ m first ws. unless (run_check keeps class first (length ws) (on m)) m (one_by_one updated m first ws);
+      run = each_updated keeps class on updated;
       measure = λ m n w. back m (step.measure m.below n w);
       down = down;
       up = λ m. over (step.up m.below) m;

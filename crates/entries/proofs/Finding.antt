@@ -1,9 +1,13 @@
 -- What is found among entries whose registers ascend. Assumes nothing.
-use Rattle.std.proofs.Common.{◌≡◌, ◌≢◌, ℕ, ◌+◌, ◌^◌, ◌<◌, ◌≤◌, eqb, List, [], ◌∷◌, ◌++◌, Some, None, Option, refl, sym, ◌∙◌, ⊎_elim, arith, rules}
-use Rattle.std.proofs.lemmas.Bool.{cond-true, cond-false, eq-eqb, ne_eqb, cases_eq}
+use Rattle.std.proofs.Common.{◌≡◌, ◌≢◌, ℕ, ◌+◌, ◌^◌, ◌<◌, ◌≤◌, true, eqb, List, [], ◌∷◌, ◌++◌, Some}
+use Rattle.std.proofs.Common.{None, Option, refl, sym, ◌∙◌, ⊎_elim, arith, rules}
+use Rattle.std.specs.List.{Any, list_any}
+use Rattle.std.specs.Option.{is_some}
+use Rattle.std.proofs.lemmas.Bool.{cond-true, cond-false, eqb-true, eq-eqb, ne_eqb, cases_eq}
+use Rattle.std.proofs.lemmas.List.Folds.{Any-from_list_any, list_any-from_Any}
 use Rattle.chart.specs.declared.patch.Patch.{Patch}
 use Rattle.chart.proofs.Masked.{acted_fits}
-use Rattle.entries.specs.Entries.{IsEntry, Ascend, found, under}
+use Rattle.entries.specs.Entries.{IsEntry, Ascend, found, under, HasEntry}
 use Rattle.entries.specs.declared.entry.Entry.{Entry}
 
 -- a patch of 16-bit words
@@ -16,6 +20,25 @@ found_at i e es is = cond-true (eqb e.register i) _ _ (eq-eqb e.register i is)
 
 pub found_behind : (i : ℕ) (e : Entry) (es : List Entry) → e.register ≢ i → found i (e ∷ es) ≡ found i es
 found_behind i e es ne = cond-false (eqb e.register i) _ _ (ne_eqb e.register i ne)
+
+-- where something waits for a register, it is found
+found_any : (i : ℕ) (es : List Entry) → is_some (found i es) ≡ list_any (λ e. eqb e.register i) es
+found_any i [] = refl
+found_any i (e ∷ es) = ⊎_elim
+    (λ at. rw (eq-eqb e.register i at) refl)
+    (λ ne. rw (ne_eqb e.register i ne) (found_any i es))
+    (cases_eq e.register i)
+
+pub has_found : (i : ℕ) (es : List Entry) → is_some (found i es) ≡ true → HasEntry i es
+has_found i es has =
+    let there = Any-from_list_any (λ e. eqb e.register i) es (sym (found_any i es) ∙ has) in
+    (there.0, there.1, there.2, there.3, eqb-true there.1.register i there.4)
+
+pub found_has : (i : ℕ) (es : List Entry) → HasEntry i es → is_some (found i es) ≡ true
+found_has i es has =
+    let there : Any (λ e. eqb e.register i ≡ true) es =
+    (has.0, has.1, has.2, has.3, eq-eqb has.1.register i has.4) in
+    found_any i es ∙ list_any-from_Any (λ e. eqb e.register i) es there
 
 -- what is found among the first entries is found among all
 pub found_front : (i : ℕ) (b rest : List Entry) (p : Patch) → found i b ≡ Some p → found i (b ++ rest) ≡ Some p

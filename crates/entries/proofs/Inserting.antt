@@ -1,8 +1,9 @@
 -- How the code finds an entry, and places an update. Assumes nothing.
-use Rattle.std.proofs.Common.{◌≡◌, ◌≢◌, ℕ, zero, suc, ◌+◌, ◌<◌, ◌≤◌, eqb, ltb, List, [], ◌∷◌, ◌++◌, length, take, drop, get_or, set, refl, ap, sym, ◌∙◌, ⊎_elim, arith}
+use Rattle.std.proofs.Common.{◌≡◌, ◌≢◌, ℕ, zero, suc, ◌+◌, ◌<◌, ◌≤◌, eqb, ltb, List, [], ◌∷◌, ◌++◌}
+use Rattle.std.proofs.Common.{length, get_or, set, refl, ap, sym, ◌∙◌, ⊎_elim, arith}
 use Rattle.std.specs.List.{insert}
 use Rattle.std.proofs.lemmas.Bool.{cases_Bool, cond-true, cond-false, lt-ltb, le-ltb, cases_lt}
-use Rattle.std.proofs.lemmas.List.{length-set, take_at, get_or_default}
+use Rattle.std.proofs.lemmas.List.{set-get_or, length-append}
 use Rattle.std.proofs.lemmas.List.Edits.{length-insert}
 use Rattle.chart.specs.declared.patch.Patch.{Patch}
 use Rattle.entries.specs.Entries.{entry_of, joined_to, found, placed}
@@ -50,38 +51,52 @@ inserted_before n p (e ∷ es) old (suc k) is lt read apart =
     let behind = place_behind n k e es is in
     placed_behind n p e es behind.0 ∙ ap (λ ds. e ∷ ds) (inserted_before n p es old k behind.1 (omega arith) read apart)
 
-inserted_last : (n : ℕ) (p : Patch) (es : List Entry) (at : ℕ) → at ≡ place n es → length es ≤ at → placed n p es ≡ insert es at (entry_of n p)
-inserted_last n p [] at is ge = let first : at ≡ 0 = is in rw first
-inserted_last n p (e ∷ es) zero is ge = absurd (omega arith)
-inserted_last n p (e ∷ es) (suc k) is ge =
+placed_last : (n k : ℕ) (p : Patch) (es : List Entry) → k ≡ place n es → length es ≤ k
+    → placed n p es ≡ es ++ entry_of n p ∷ []
+placed_last n k p [] is ge = refl
+placed_last n zero p (e ∷ es) is ge = absurd (omega arith)
+placed_last n (suc k) p (e ∷ es) is ge =
     let behind = place_behind n k e es is in
-    placed_behind n p e es behind.0 ∙ ap (λ ds. e ∷ ds) (inserted_last n p es k behind.1 (omega arith))
+    let rest = placed_last n k p es behind.1 (omega arith) in
+    placed_behind n p e es behind.0 ∙ ap (λ ds. e ∷ ds) rest
 
--- a list all of which is written over
-refilled : (es ds : List Entry) → length ds ≡ length es → take (length es) (ds ++ drop (length ds) es) ≡ ds
-refilled es ds same = take_at ds (drop (length ds) es) (length es) same
+-- an entry that was lent and left as it was
+left_alone : (es : List Entry) (old : Entry) (at : ℕ) → old ≡ get_or es at old → set es at old ≡ es
+left_alone es old at read = ap (set es at) read ∙ set-get_or es at old
 
-at_place : (n : ℕ) (p : Patch) (es : List Entry) (d : Entry) (at : ℕ) → at ≡ place n es → at < length es → (get_or es at d).register ≡ n → placed n p es ≡ set es at (joined_to (get_or es at d) p)
-at_place n p es d at is lt here = joined_in n p es (get_or es at d) at is lt (get_or_default es at d (get_or es at d) lt) here
+-- What the code does: the entry at the place, if there is one, is lent and joined, or left alone.
+pub joins : (n : ℕ) (p : Patch) (es : List Entry) (old new : Entry) (at : ℕ)
+    → at ≡ place n es → at < length es → old ≡ get_or es at old → old.register ≡ n
+    → new ≡ joined_to old p → set es at new ≡ placed n p es
+joins n p es old new at is lt read here changed =
+    ap (set es at) changed ∙ sym (joined_in n p es old at is lt read here)
 
-pub joins : (n : ℕ) (p : Patch) (es ds : List Entry) (d new : Entry) (at : ℕ) → ds ≡ es → at ≡ place n es → at < length es → (get_or ds at d).register ≡ n → new ≡ joined_to (get_or ds at d) p
-    → take (length es) (set ds at new ++ drop (length (set ds at new)) es) ≡ placed n p es
-joins n p es ds d new at same is lt here changed =
-    let on : new ≡ joined_to (get_or es at d) p = changed ∙ ap (λ xs. joined_to (get_or xs at d) p) same in
-    let there : (get_or es at d).register ≡ n = sym (ap (λ xs. (get_or xs at d).register) same) ∙ here in
-    refilled es (set ds at new) (length-set ds at new ∙ ap length same) ∙ ap (λ xs. set xs at new) same ∙ ap (set es at) on ∙ sym (at_place n p es d at is lt there)
+pub inserts : (n : ℕ) (p : Patch) (es : List Entry) (old new : Entry) (at : ℕ) → at ≡ place n es
+    → at < length es → old ≡ get_or es at old → old.register ≢ n → new ≡ entry_of n p
+    → insert (set es at old) at new ≡ placed n p es
+inserts n p es old new at is lt read apart made =
+    ap (λ xs. insert xs at new) (left_alone es old at read)
+    ∙ ap (insert es at) made
+    ∙ sym (inserted_before n p es old at is lt read apart)
 
-pub inserts_before : (n : ℕ) (p : Patch) (es ds : List Entry) (d new : Entry) (at : ℕ) → ds ≡ es → at ≡ place n es → at < length es → (get_or ds at d).register ≢ n → new ≡ entry_of n p → insert es at new ≡ placed n p es
-inserts_before n p es ds d new at same is lt apart made =
-    ap (insert es at) made
-    ∙ sym (inserted_before n p es (get_or es at d) at is lt (get_or_default es at d (get_or es at d) lt) (λ here. apart (ap (λ xs. (get_or xs at d).register) same ∙ here)))
+pub pushes : (n : ℕ) (p : Patch) (es : List Entry) (new : Entry) (at : ℕ) → at ≡ place n es
+    → length es ≤ at → new ≡ entry_of n p → es ++ new ∷ [] ≡ placed n p es
+pushes n p es new at is ge made =
+    ap (λ x. es ++ x ∷ []) made ∙ sym (placed_last n at p es is ge)
 
-pub inserts_last : (n : ℕ) (p : Patch) (es : List Entry) (new : Entry) (at : ℕ) → at ≡ place n es → length es ≤ at → new ≡ entry_of n p → insert es at new ≡ placed n p es
-inserts_last n p es new at is ge made = ap (insert es at) made ∙ sym (inserted_last n p es at is ge)
+-- so there is room for what is put in
+pub room_before : (n : ℕ) (p : Patch) (es : List Entry) (old : Entry) (at : ℕ)
+    → length (placed n p es) ≤ 16 → at ≡ place n es → at < length es → old ≡ get_or es at old
+    → old.register ≢ n → (at ≤ length (set es at old)) × (length (set es at old) < 16)
+room_before n p es old at few is lt read apart =
+    let more = length-insert es at (entry_of n p) (omega arith) in
+    let as_placed = ap length (inserted_before n p es old at is lt read apart) in
+    rw (left_alone es old at read) (omega arith, omega (arith, few, as_placed, more))
 
-pub room_before : (n : ℕ) (p : Patch) (es ds : List Entry) (d : Entry) (at : ℕ) → length (placed n p es) ≤ 16 → ds ≡ es → at ≡ place n es → at < length es → (get_or ds at d).register ≢ n → length es < 16
-room_before n p es ds d at few same is lt apart =
-    omega (arith, few, ap length (inserts_before n p es ds d (entry_of n p) at same is lt apart refl), length-insert es at (entry_of n p) (omega arith))
+pub room_behind : (n : ℕ) (p : Patch) (es : List Entry) (at : ℕ) → length (placed n p es) ≤ 16
+    → at ≡ place n es → length es ≤ at → length es < 16
+room_behind n p es at few is ge =
+    let more = length-append es (entry_of n p ∷ []) in
+    omega (arith, few, ap length (placed_last n at p es is ge), more)
 
-pub room_last : (n : ℕ) (p : Patch) (es : List Entry) (at : ℕ) → length (placed n p es) ≤ 16 → at ≡ place n es → at ≤ length es → length es ≤ at → length es < 16
-room_last n p es at few is le ge = omega (arith, few, ap length (inserted_last n p es at is ge), length-insert es at (entry_of n p) le)
+pub ruleset placing = (joins, inserts, pushes, room_before, room_behind)

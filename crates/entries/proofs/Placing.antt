@@ -1,5 +1,7 @@
 -- What a table holds once an update has entered it. Assumes nothing.
-use Rattle.std.proofs.Common.{◌≡◌, ◌≢◌, ℕ, zero, suc, ◌+◌, ◌-◌, ◌^◌, ◌<◌, ◌≤◌, max, Bool, true, false, not, ◌||◌, cond, eqb, ltb, List, [], ◌∷◌, length, drop, Some, refl, ap, sym, subst, ◌∙◌, ⊎_elim, arith}
+use Rattle.std.proofs.Common.{inl, inr, ◌↔◌, ◌≡◌, ◌≢◌, ℕ, zero, suc, ◌+◌, ◌-◌, ◌^◌, ◌<◌, ◌≤◌, max}
+use Rattle.std.proofs.Common.{Bool, true, false, not, ◌||◌, cond, eqb, ltb, List, [], ◌∷◌, length}
+use Rattle.std.proofs.Common.{drop, Some, refl, ap, sym, subst, ◌∙◌, ⊎_elim, arith}
 use Rattle.std.specs.Int.{bit_at}
 use Rattle.std.specs.Option.{is_some}
 use lib.Bits.{bit_and, bit_or, and_le_r}
@@ -10,9 +12,11 @@ use Rattle.std.proofs.lemmas.List.{length-drop}
 use Rattle.chart.specs.Patch.{acted, joined, idle}
 use Rattle.chart.specs.declared.patch.Patch.{Patch}
 use Rattle.chart.proofs.Masked.{acted_fits, acts_by_bits, joined_fits, join_acts, idles}
-use Rattle.entries.specs.Entries.{entry_of, joined_to, IsEntry, Ascend, IsTable, found, under, takes, placed, entered, Enters}
+use Rattle.entries.specs.Entries.{entry_of, joined_to, IsEntry, Ascend, IsTable, found, under}
+use Rattle.entries.specs.Entries.{takes, FindsPlace, placed, entered, Enters}
 use Rattle.entries.specs.declared.entry.Entry.{Entry}
-use Rattle.entries.proofs.Finding.{FitsWord, found_at, found_behind, none_before, ascend_less, under_fits}
+use Rattle.entries.proofs.Finding.{FitsWord, has_found, found_has, found_at, found_behind}
+use Rattle.entries.proofs.Finding.{none_before, ascend_less, under_fits}
 
 -- where an update is placed, by where the first entry's register lies
 pub placed_behind : (n : ℕ) (p : Patch) (e : Entry) (es : List Entry) → e.register < n → placed n p (e ∷ es) ≡ e ∷ placed n p es
@@ -49,6 +53,26 @@ idle_from : (idles_it takes_it : Bool) → idles_it || not takes_it ≡ true →
 idle_from true takes_it stands is = refl
 idle_from false true stands is = stands
 idle_from false false stands is = is
+
+-- whether an update finds a place, in the words of the rule
+finds : (n : ℕ) (p : Patch) (es : List Entry) → takes n p es ≡ true → FindsPlace n p es
+finds n p es is = ⊎_elim
+    (λ either. ⊎_elim
+    (λ none. inl (eqb-true p.mask 0 none))
+    (λ has. inr (inl (has_found n es has)))
+    (or_cases (idle p) (is_some (found n es)) either))
+    (λ room. inr (inr (ltb-true (length es) 16 room)))
+    (or_cases (idle p || is_some (found n es)) (ltb (length es) 16) is)
+
+found_place : (n : ℕ) (p : Patch) (es : List Entry) → FindsPlace n p es → takes n p es ≡ true
+found_place n p es (inl none) = rw (eq-eqb p.mask 0 none) refl
+found_place n p es (inr (inl has)) = rw (found_has n es has) (grind arith)
+found_place n p es (inr (inr room)) = rw (lt-ltb (length es) 16 room) (grind arith)
+
+pub takes_finds : (n : ℕ) (p : Patch) (es : List Entry) (said : Bool) → said ≡ takes n p es
+    → (said ≡ true) ↔ FindsPlace n p es
+takes_finds n p es said is =
+    (λ yes. finds n p es (sym is ∙ yes), λ place. is ∙ found_place n p es place)
 
 -- other registers
 joined_other : (n i : ℕ) (p : Patch) (e : Entry) (es : List Entry) → e.register ≡ n → i ≢ n → found i (joined_to e p ∷ es) ≡ found i (e ∷ es)

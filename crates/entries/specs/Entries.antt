@@ -1,5 +1,7 @@
 -- What waits in a table of updates, and in which bursts it is sent. Assumes nothing.
-use Rattle.std.specs.Prelude.{not, ◌≡◌, ◌≢◌, ℕ, ◌+◌, ◌^◌, ◌<◌, ◌≤◌, Bool, cond, ◌&&◌, ◌||◌, List, [], ◌∷◌, ◌++◌, map, length, Some, None, Option, ◌==◌, nat_lt, bit_and}
+use Rattle.std.specs.Prelude.{not, ◌≡◌, ◌≢◌, ℕ, ◌+◌, ◌^◌, ◌<◌, ◌≤◌, Bool, cond, ◌&&◌, ◌||◌, ◌⊎◌}
+use Rattle.std.specs.Prelude.{List, [], ◌∷◌, ◌++◌, map, length, Any, Some, None, Option, ◌==◌}
+use Rattle.std.specs.Prelude.{nat_lt, bit_and}
 use Rattle.std.specs.Int.{bit_at}
 use Rattle.std.specs.Option.{is_some}
 use Rattle.chart.specs.Patch.{acted, joined, idle, complete, patch_of}
@@ -39,7 +41,15 @@ abbrev pub under : Option Patch → ℕ → ℕ
 under None w = w
 under (Some p) w = acted p w
 
--- An update finds a place where nothing has to wait for it, where its register has an entry, or where there is room for one more.
+-- something waits for the register
+abbrev pub HasEntry : ℕ → List Entry → Type 0
+HasEntry n es = Any (λ e. e.register ≡ n) es
+
+-- An update finds a place: it changes nothing, or its register has an entry, or fewer than 16 wait.
+abbrev pub FindsPlace : ℕ → Patch → List Entry → Type 0
+FindsPlace n p es = (p.mask ≡ 0) ⊎ HasEntry n es ⊎ (length es < 16)
+
+-- the same as a test
 abbrev pub takes : ℕ → Patch → List Entry → Bool
 takes n p es = idle p || is_some (found n es) || nat_lt (length es) 16
 

@@ -1,4 +1,5 @@
 #![tactic(auto)]
 
 pub mod entry;
+mod slots;
 pub mod table;

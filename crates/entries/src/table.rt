@@ -1,26 +1,15 @@
 // The updates that wait, ascending by register, one for each.
-ghost use Rattle.std.specs.Prelude.{◌≡◌, ◌≤◌, true, [], drop, length, ◌==◌};
-ghost use Rattle.entries.specs.Entries.{IsTable, found, takes, placed, entered, Enters, bursts, first_burst, AreBursts};
-ghost use Rattle.entries.specs.Places.{first_patch, place, links};
+ghost use Rattle.std.specs.Prelude.{◌≡◌, ◌≤◌, ◌↔◌, true, [], drop, length, ◌==◌};
+ghost use Rattle.entries.specs.Entries.{IsTable, found, takes, FindsPlace, entered, Enters, bursts};
+ghost use Rattle.entries.specs.Entries.{first_burst, AreBursts};
+ghost use Rattle.entries.specs.Places.{first_patch, links};
 
 use crate::entry::Entry;
+pub use crate::slots::MOST_ENTRIES;
+use crate::slots::Slots;
 use arrayvec::ArrayVec;
 use chart::patch::Patch;
 use std::marker::Model;
-
-// The most entries of a table; so a run of entries is never too long.
-pub const MOST_ENTRIES: usize = 16;
-
-// How many entries lie before the place of a register.
-fn place_of(entries: &[Entry], register: u16) -> usize
-    ensures value { result ≡ place register entries.now }
-    ensures within { result ≤ length entries.now }
-{
-    entries
-        .iter()
-        .take_while(|entry| entry.register < register)
-        .count()
-}
 
 // What waits for a register among entries.
 #[tactic(auto, unfolding(crate::specs::Places::first_patch))]
@@ -31,20 +20,6 @@ fn patch_of(entries: &[Entry], register: u16) -> Option<Patch>
         .iter()
         .find(|entry| entry.register == register)
         .map(|entry| entry.patch)
-}
-
-// An update is joined to the entry of its register, which is changed where it lies, or inserted in its order.
-#[tactic(auto, using(crate::proofs::Inserting::joins, crate::proofs::Inserting::inserts_before, crate::proofs::Inserting::inserts_last, crate::proofs::Inserting::room_before, crate::proofs::Inserting::room_last))]
-fn place(entries: &mut ArrayVec<Entry, MOST_ENTRIES>, register: u16, patch: Patch)
-    requires { length (placed register patch entries.old.items) ≤ 16 }
-    ensures { entries.new.items ≡ placed register patch entries.old.items }
-{
-    let at = place_of(entries, register);
-    if at < entries.len() && entries[at].register == register {
-        entries[at].join(patch);
-    } else {
-        entries.insert(at, Entry::new(register, patch));
-    }
 }
 
 // How many entries lead to the one behind them, up to one that does not.
@@ -72,7 +47,7 @@ fn burst_len(entries: &[Entry]) -> usize
 
 #[derive(Debug, Drop)]
 pub struct Table {
-    entries: ArrayVec<Entry, MOST_ENTRIES>,
+    slots: Slots,
 }
 
 impl Model for Table {
@@ -82,9 +57,9 @@ impl Model for Table {
 
     ghost Value = { List Entry };
 
-    ghost view = { λ t. t.entries.items };
+    ghost view = { λ t. t.slots.entries.items };
 
-    ghost invariant = { λ t. IsTable t.entries.items };
+    ghost invariant = { λ t. IsTable t.slots.entries.items };
 }
 
 impl Table {
@@ -93,14 +68,16 @@ impl Table {
         ensures { result ≡ [] }
     {
         Table {
-            entries: ArrayVec::new(),
+            slots: Slots {
+                entries: ArrayVec::new(),
+            },
         }
     }
 
     pub fn is_empty(&self) -> bool
         ensures { result ≡ (length self.now == 0) }
     {
-        self.entries.is_empty()
+        self.slots.entries.is_empty()
     }
 
     // What waits for a register, if something does.
@@ -108,14 +85,15 @@ impl Table {
     pub fn find(&self, register: u16) -> Option<Patch>
         ensures { result ≡ found register self.now }
     {
-        patch_of(&self.entries, register)
+        patch_of(&self.slots.entries, register)
     }
 
     // Whether an update finds a place: none is needed where it changes nothing, or where its register has an entry.
     pub fn takes(&self, register: u16, patch: Patch) -> bool
-        ensures { result ≡ takes register patch self.now }
+        ensures value { result ≡ takes register patch self.now }
+        ensures law { (result ≡ true) ↔ FindsPlace register patch self.now }
     {
-        patch.is_idle() || self.find(register).is_some() || self.entries.len() < MOST_ENTRIES
+        patch.is_idle() || self.find(register).is_some() || self.slots.entries.len() < MOST_ENTRIES
     }
 
     // An update waits from now on, joined to what waits for its register. One that changes nothing, or that finds no place,
@@ -127,7 +105,7 @@ impl Table {
         ensures table { IsTable self.new }
     {
         if self.takes(register, patch) && !patch.is_idle() {
-            place(&mut self.entries, register, patch);
+            self.slots.place(register, patch);
         }
     }
 
@@ -138,7 +116,7 @@ impl Table {
         ensures law { AreBursts self.now (bursts self.now) }
         ensures few { length result.now ≤ 16 }
     {
-        &self.entries[..burst_len(&self.entries)]
+        &self.slots.entries[..burst_len(&self.slots.entries)]
     }
 
     // The first entries leave, or all where there are fewer.
@@ -146,12 +124,14 @@ impl Table {
     pub fn leave(&mut self, count: usize)
         ensures { self.new ≡ drop count self.old }
     {
-        self.entries.drain(..count.min(self.entries.len()));
+        self.slots
+            .entries
+            .drain(..count.min(self.slots.entries.len()));
     }
 
     pub fn clear(&mut self)
         ensures { self.new ≡ [] }
     {
-        self.entries.clear();
+        self.slots.entries.clear();
     }
 }

@@ -2,8 +2,9 @@
 ghost use Rattle.std.specs.Prelude.{◌≡◌, ℕ, ◌+◌, ◌≤◌, false, take, drop, sum_by, true};
 ghost use Rattle.chart.specs.Replies.{port_reply, word_value, no_value};
 ghost use Rattle.layers.specs.Layers.{FaultIsOwed};
-ghost use Rattle.owed.specs.Runs.{marked, runs, AreRuns, tallied, SomeOwed};
+ghost use Rattle.owed.specs.Runs.{marked, runs, AreRuns, tallied, which_reply, SomeOwed};
 ghost use Rattle.keeping.specs.Machine.{KeeperModel, KeeperSound, KeeperNew, new_keeper, held_at, holding, sent, run_sent, runs_sent, owed_sent, live_read, changed, keeper_steps};
+ghost use Rattle.keeping.specs.Laws.{KeeperLaws};
 ghost use Rattle.keeper.specs.Made.{keeper_model};
 ghost use Rattle.keeping.proofs.KeeperMeaning.{keeper_meaning};
 
@@ -38,6 +39,12 @@ impl<P: Port> Keeper<P> {
     pub fn new(below: P) -> Keeper<P>
         ensures value { keeper_model P.Port.model result ≡ new_keeper P.Chart.Chart.resets (P.Port.model below) }
         ensures new { P.Port.New P.Chart.Chart.resets (P.Port.model below) → KeeperNew P.Chart.Chart.resets (P.Port.New P.Chart.Chart.resets) (keeper_model P.Port.model result) }
+        // A keeper's calls are held to its steps, and these keep to the keeper's rules.
+        ensures laws { let chart = P.Chart.Chart in
+            let port = P.Port in
+            let step = port.steps chart.classed chart.resets in
+            let keeper = ⟦<Keeper<P> as Port>⟧.steps chart.classed chart.resets in
+            KeeperLaws step port.chip port.KEEPS chart.classed chart.resets keeper }
     {
         let mut held = [0; REGISTERS];
         memory::reset::<P::Chart>(&mut held);
@@ -59,7 +66,7 @@ impl<P: Port> Keeper<P> {
 
     // Some setting that is owed, if there is one. Which one is left open.
     pub fn any_owed(&self) -> Option<u16>
-        ensures { SomeOwed self.now.owed result }
+        ensures { SomeOwed self.now.owed (which_reply result) }
     {
         self.owed.any()
     }
@@ -195,7 +202,6 @@ impl<P: Port> Port for Keeper<P> {
     }
 
     fn run(&mut self, first: u16, words: &[u16]) -> Result<(), Refusal<Fault>> {
-        self.access().check_run::<P::Chart>(first, words.len())?;
         self.update_each(first, words)
     }
 

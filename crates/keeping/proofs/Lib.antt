@@ -1,3 +1,4 @@
 pub mod Holding
 pub mod Sending
 pub mod KeeperMeaning
+pub mod KeeperLaws

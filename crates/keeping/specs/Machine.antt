@@ -8,10 +8,10 @@ use Rattle.chart.specs.declared.patch.Patch.{Patch}
 use Rattle.chip.specs.Words.{fresh, Fit}
 use Rattle.bus.specs.Chips.{Chip}
 use Rattle.bus.specs.Checks.{unless}
-use Rattle.port.specs.Checks.{read_check, update_check, run_check, onward}
+use Rattle.port.specs.Checks.{read_check, update_check, onward, in_turn}
 use Rattle.port.specs.Meaning.{PortSteps}
-use Rattle.port.specs.OneByOne.{one_by_one}
-use Rattle.layers.specs.Layers.{on_owed, in_turn}
+use Rattle.port.specs.OneByOne.{each_updated}
+use Rattle.layers.specs.Layers.{on_owed}
 use Rattle.owed.specs.Runs.{marked, runs, cleared, differing}
 use Rattle.owed.specs.declared.runs.Run.{Run}
 
@@ -107,7 +107,7 @@ module _ {M : Type 0} (step : PortSteps M) where
     keeper_steps = record {
       read = λ m n. unless (read_check true (class n) (on m)) m (class_read m n (class n));
       update = updated;
-      run = λ m first ws. unless (run_check true class first (length ws) (on m)) m (one_by_one updated m first ws);
+      run = each_updated true class on updated;
       measure = λ m n w. back m (step.measure m.below n w);
       down = down;
       up = λ m. over (step.up m.below) m;

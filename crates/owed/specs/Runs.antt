@@ -1,5 +1,6 @@
 -- What is owed, and the runs in which it is sent. Marks are a list of booleans, one for each register by its number. Assumes nothing.
-use Rattle.std.specs.Prelude.{◌≡◌, ℕ, zero, suc, ◌+◌, ◌<◌, ◌≤◌, min, Bool, true, false, not, ◌⊎◌, List, [], ◌∷◌, length, count_by, ◌==◌, slice_index, slice_index_or, slice_set, Option, MatchOption}
+use Rattle.std.specs.Prelude.{◌≡◌, ℕ, zero, suc, ◌+◌, ◌<◌, ◌≤◌, min, Bool, true, false, not, ◌⊎◌, List, [], ◌∷◌, length, count_by, ◌==◌, slice_index, slice_index_or, slice_set, Option, Some, None}
+use Rattle.chart.specs.Replies.{Reply}
 use Rattle.std.specs.List.{prefix_len}
 use Rattle.owed.specs.declared.runs.Run.{Run}
 
@@ -41,9 +42,16 @@ AreRuns owed n (r ∷ rs) = IsNext owed n r × AreRuns owed (r.first + r.count) 
 abbrev pub tallied : List Bool → ℕ × ℕ
 tallied bs = (count_by (λ b. b) bs, length (runs bs))
 
+-- the answer to 'which is owed', as number and values: 1 with a register, or 0 for none
+abbrev pub which_reply : Option ℕ → Reply
+which_reply None = record { number = 0; values = [] }
+which_reply (Some n) = record { number = 1; values = n ∷ [] }
+
 -- some owed number, or none exactly where nothing is owed
-abbrev pub SomeOwed : List Bool → Option ℕ → Type 0
-SomeOwed bs r = MatchOption r ((n : ℕ) → marked bs n ≡ false) (λ n. marked bs n ≡ true)
+abbrev pub SomeOwed : List Bool → Reply → Type 0
+SomeOwed bs r =
+    (r.number ≡ 0 → (n : ℕ) → marked bs n ≡ false)
+    × (r.number ≡ 1 → marked bs (slice_index r.values 0) ≡ true)
 
 -- numbers that a run has, and those that it has not
 abbrev pub InRun : Run → ℕ → Type 0

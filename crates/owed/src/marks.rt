@@ -1,6 +1,6 @@
 // Which settings a keeper owes to what it stands on.
 ghost use Rattle.std.specs.Prelude.{◌≡◌, false, length, replicate, sum_by, slice_set};
-ghost use Rattle.owed.specs.Runs.{marked, runs, AreRuns, tallied, SomeOwed, cleared, Clears, differing, Differ};
+ghost use Rattle.owed.specs.Runs.{marked, runs, AreRuns, tallied, which_reply, SomeOwed, cleared, Clears, differing, Differ};
 
 use crate::runs::{Run, Runs};
 use chart::class::Chart;
@@ -100,7 +100,7 @@ impl Marks {
     // Some register that is owed, if there is one. Which one is left open.
     #[tactic(auto, using(crate::proofs::Running::first_is_owed, crate::proofs::Running::none_is_owed))]
     pub fn any(&self) -> Option<u16>
-        ensures { SomeOwed self.now result }
+        ensures { SomeOwed self.now (which_reply result) }
     {
         self.runs().next().map(|run| run.first)
     }

@@ -1,3 +1,4 @@
 pub mod Storing
 pub mod Sending
 pub mod PagingMeaning
+pub mod PagingLaws

@@ -232,19 +232,19 @@ module _ {count : ℕ} {class : ℕ → Class} {reset : ℕ → ℕ} (chart : Ch
   up_sound m sound = (bus.up_sound m.bus sound.0, rw (bus.up_done m.bus) sound.1)
 
   -- the fetch of a read that goes on
-  read_fetches : (m : P) (n : ℕ) → PagingSound chip Sound m → read_check false (class n) (chip m.bus).supply ≡ None → Fetches step chip Sound New bus m n (fetched step m n)
+  pub read_fetches : (m : P) (n : ℕ) → PagingSound chip Sound m → read_check false (class n) (chip m.bus).supply ≡ None → Fetches step chip Sound New bus m n (fetched step m n)
   read_fetches m n sound goes =
       let settled = read_settled false (class n) (chip m.bus).supply goes in
       let there = in_chart chart n settled.0 in
       fetches step chip Sound New bus m n sound settled.1 there.0 there.1
 
-  update_one : (m : P) (n : ℕ) (p : Patch) → PagingSound chip Sound m → PatchFits p → update_check false (class n) (chip m.bus).supply ≡ None → One m n (acted p (W m n)) (update_sent step m n p)
+  pub update_one : (m : P) (n : ℕ) (p : Patch) → PagingSound chip Sound m → PatchFits p → update_check false (class n) (chip m.bus).supply ≡ None → One m n (acted p (W m n)) (update_sent step m n p)
   update_one m n p sound fits goes =
       let settled = update_settled false (class n) (chip m.bus).supply goes in
       let there = in_chart chart n (search (rules, settled.0)) in
       updates m n p sound settled.1 there.0 there.1 fits.0
 
-  run_all : (m : P) (first : ℕ) (ws : List ℕ) → PagingSound chip Sound m → Fit ws → run_check false class first (length ws) (chip m.bus).supply ≡ None → Stores step chip Sound New bus m first ws (run_sent step m first ws)
+  pub run_all : (m : P) (first : ℕ) (ws : List ℕ) → PagingSound chip Sound m → Fit ws → run_check false class first (length ws) (chip m.bus).supply ≡ None → Stores step chip Sound New bus m first ws (run_sent step m first ws)
   run_all m first ws sound fit goes =
       let settled = run_settled false class first (length ws) (chip m.bus).supply goes in
       let there = run_in_chart chart false first (length ws) (chip m.bus).supply goes in

@@ -2,6 +2,7 @@
 ghost use Rattle.std.specs.Prelude.{◌≡◌, ◌+◌, ◌<◌, ◌≤◌, false, length, Some};
 ghost use Rattle.chart.specs.Replies.{told, failure_values, fault_values, port_reply, word_value, no_value};
 ghost use Rattle.pages.specs.Machine.{PagingModel, PagingSound, PagingNew, paged, located, reached, fetched, piece_sent, update_sent, run_sent, paging_steps, paging_shown};
+ghost use Rattle.pages.specs.Laws.{PagingLaws};
 ghost use Rattle.paging.specs.Made.{paging_model};
 ghost use Rattle.pages.proofs.PagingMeaning.{paging_meaning};
 
@@ -53,10 +54,12 @@ impl Register {
 // The clauses go through `paging_model`, since the `Value` of a model cannot yet be a type among a bound's members, and name
 // the steps at the bus's own chart each time, as in `Bus`.
 impl<B: Bus> Paging<B> {
-    // Over a new bus this is a new port.
+    // Over a new bus this is a new port. Whatever the bus, its calls keep to the rules of paging.
     pub fn new(bus: B) -> Paging<B>
         ensures value { paging_model B.Bus.model result ≡ paged (B.Bus.model bus) (Some 0) }
         ensures new { B.Bus.New B.Chart.Chart.resets (B.Bus.model bus) → PagingNew (B.Bus.New B.Chart.Chart.resets) (paging_model B.Bus.model result) }
+        ensures laws { PagingLaws (B.Bus.steps B.Chart.Chart.classed B.Chart.Chart.resets)
+            B.Bus.chip B.Chart.Chart.classed B.Bus.Sound }
     {
         Paging { bus, page: Some(0) }
     }

@@ -74,3 +74,7 @@ module _ {count : ℕ} {class : ℕ → Class} {reset : ℕ → ℕ} (chart : Ch
       let begin = in_chart (first + 0) (search (rules, run.settings, run.some)) in
       let end = in_chart (first + (n - 1)) (search (rules, run.settings, run.some)) in
       (omega arith, omega arith, omega (arith, run.some))
+
+  -- a run that is not refused ends at 128 at the latest
+  pub run_fits : (keeps : Bool) (first n : ℕ) (on : Bool) → run_check keeps class first n on ≡ None → first + n ≤ 128
+  run_fits keeps first n on e = (run_in_chart keeps first n on e).2

@@ -1,6 +1,6 @@
 -- What a call on a port is refused for before anything is sent, the first in order; and that a refusal ends a call. Assumes nothing.
-use Rattle.std.specs.Prelude.{ℕ, zero, suc, ◌+◌, Bool, cond, ◌||◌, [], Some, Option, ◌==◌, nat_lt}
-use Rattle.chart.specs.Replies.{Reply, refused}
+use Rattle.std.specs.Prelude.{ℕ, zero, suc, ◌+◌, Bool, cond, ◌||◌, List, [], ◌∷◌, Some, Option, ◌==◌, nat_lt}
+use Rattle.chart.specs.Replies.{Reply, accepted, refused}
 use Rattle.chart.specs.declared.class.Class.{Class}
 use Rattle.chart.specs.declared.class.Class.TheVariants.{Absent, Setting, Live}
 use Rattle.bus.specs.Checks.{asleep}
@@ -39,3 +39,8 @@ is_accepted r = r.number == 0
 -- the second part of a call follows where the first was accepted
 abbrev pub onward : {M : Type 0} → Reply × M → (M → Reply × M) → Reply × M
 onward p next = cond (is_accepted p.0) (next p.1) p
+
+-- the parts of a call, one after the other, up to the first that is refused
+abbrev pub in_turn : {A M : Type 0} → (M → A → Reply × M) → List A → M → Reply × M
+in_turn send [] m = (accepted [], m)
+in_turn send (a ∷ more) m = onward (send m a) (in_turn send more)

@@ -1,11 +1,18 @@
 -- A run as updates. Assumes nothing.
-use Rattle.std.specs.Prelude.{ℕ, ◌+◌, List, [], ◌∷◌}
+use Rattle.std.specs.Prelude.{ℕ, ◌+◌, Bool, List, [], ◌∷◌, length}
 use Rattle.chart.specs.Patch.{setting_to}
 use Rattle.chart.specs.Replies.{Reply, accepted}
+use Rattle.chart.specs.declared.class.Class.{Class}
 use Rattle.chart.specs.declared.patch.Patch.{Patch}
-use Rattle.port.specs.Checks.{onward}
+use Rattle.bus.specs.Checks.{unless}
+use Rattle.port.specs.Checks.{run_check, onward}
 
 -- Each word of a run is an update of its own; one that is refused ends the run.
 abbrev pub one_by_one : {M : Type 0} → (M → ℕ → Patch → Reply × M) → M → ℕ → List ℕ → Reply × M
 one_by_one update m first [] = (accepted [], m)
 one_by_one update m first (w ∷ ws) = onward (update m first (setting_to w)) (λ k. one_by_one update k (first + 1) ws)
+
+-- The whole run is checked before the first of its updates, so one that breaks a rule changes nothing.
+abbrev pub each_updated : {M : Type 0} → Bool → (ℕ → Class) → (M → Bool) → (M → ℕ → Patch → Reply × M) → M → ℕ → List ℕ → Reply × M
+each_updated keeps class on update m first ws =
+    unless (run_check keeps class first (length ws) (on m)) m (one_by_one update m first ws)

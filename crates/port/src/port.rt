@@ -5,7 +5,7 @@ ghost use Rattle.chart.specs.Replies.{port_reply, word_value, no_value};
 ghost use Rattle.i2c_target.specs.Traces.{Traced};
 ghost use Rattle.bus.specs.Chips.{Chip};
 ghost use Rattle.port.specs.Views.{view_of};
-ghost use Rattle.port.specs.OneByOne.{one_by_one};
+ghost use Rattle.port.specs.OneByOne.{each_updated};
 ghost use Rattle.port.specs.Meaning.{PortSteps, PortMeaning};
 
 use crate::checks::Access;
@@ -78,13 +78,14 @@ pub trait Port {
     fn run(&mut self, first: u16, words: &[u16]) -> Result<(), Refusal<Fault>>
         ensures { (port_reply no_value result, model self.new) ≡ (steps Self.Chart.Chart.classed Self.Chart.Chart.resets).run (model self.old) first words.now };
 
-    // The words of a run as updates, one by one, up to the first that is refused: for a port that has no shorter way to take a run.
+    // A run by updates, for a port that has no shorter way to take one: checked whole, then its words one by one, up to the first that
+    // is refused.
+    #[tactic(auto, using(crate::proofs::Settled::run_fits))]
     fn update_each(&mut self, first: u16, words: &[u16]) -> Result<(), Refusal<Fault>>
-        ensures { (port_reply no_value result, model self.new) ≡ one_by_one (steps Self.Chart.Chart.classed Self.Chart.Chart.resets).update (model self.old) first words.now }
+        ensures { (port_reply no_value result, model self.new) ≡ each_updated KEEPS Self.Chart.Chart.classed (λ m. (chip m).supply) (steps Self.Chart.Chart.classed Self.Chart.Chart.resets).update (model self.old) first words.now }
     {
-        for (number, word) in (usize::from(first)..).zip(words) {
-            // What no 16-bit number can be names no register.
-            let register = u16::try_from(number).map_err(|_| Refusal::Register)?;
+        self.access().check_run::<Self::Chart>(first, words.len())?;
+        for (register, word) in (first..).zip(words) {
             self.update(register, Patch::setting_to(*word))?;
         }
         Ok(())

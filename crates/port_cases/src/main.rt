@@ -56,7 +56,7 @@ fn read<P: Port>(port: &mut P, register: u16) -> Result<(), Refusal<Fault>> {
 
 // On the head chart 19 is a setting, 20 to 23 are live, and 24 to 31 are absent.
 #[rattlefmt::skip]
-fn awake<P: Port<Chart = Head>>(port: &mut P) -> [Case; 16] {
+fn awake<P: Port<Chart = Head>>(port: &mut P) -> [Case; 18] {
     let patch = Patch { mask: 0xFFFF, bits: 7 };
     [
         Case { call: "run of 16 from 40", answer: port.run(40, &[7; 16]), expected: 0 },
@@ -64,6 +64,8 @@ fn awake<P: Port<Chart = Head>>(port: &mut P) -> [Case; 16] {
         Case { call: "run of 0 from 40", answer: port.run(40, &[]), expected: 1 },
         Case { call: "run of 10 from 19", answer: port.run(19, &[7; 10]), expected: 2 },
         Case { call: "run of 5 from 19", answer: port.run(19, &[7; 5]), expected: 3 },
+        Case { call: "updates of 17 from 40", answer: port.update_each(40, &[7; 17]), expected: 1 },
+        Case { call: "updates of 2 from 19", answer: port.update_each(19, &[7; 2]), expected: 3 },
         Case { call: "read 0", answer: read(port, 0), expected: 2 },
         Case { call: "read 28", answer: read(port, 28), expected: 2 },
         Case { call: "read 128", answer: read(port, 128), expected: 2 },

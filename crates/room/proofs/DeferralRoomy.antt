@@ -79,16 +79,19 @@ module _ {M : Type 0} (step : PortSteps M) (trace : M → Traced) (chip : M → 
   called : (n : ℕ) (m : D) (b : M) → DeferralKept m → Pays trace left J n m.below b → Costs_at layer n m (over b m)
   called n m b kept p = through layer n n m (over b m) (record { below = p.stays; short = kept.short }) p (omega arith)
 
-  -- a burst goes below as a run or as an update
-  passed_costs : (b : M) (burst : List Entry) → J b → Linked burst → length burst ≤ 16 → Pays trace left J (burst_makes c (length burst)) b (passed step b burst).1
+  -- a burst goes below as an update or as a run
+  passed_costs : (b : M) (burst : List Entry) → J b → Linked burst → length burst ≤ 16
+      → Pays trace left J (burst_makes c (length burst)) b (passed step b burst).1
   passed_costs b [] j none few = absurd none
-  passed_costs b (e ∷ es) j linked few =
-      let n = length (e ∷ es) in
-      let ws = words_of (e ∷ es) in
-      let as_many : length ws ≡ n = length-map (e ∷ es) _ in
-      cond_both (complete e.patch) (step.run b e.register ws) (step.update b e.register e.patch) (λ q. Pays trace left J (burst_makes c n) b q.1)
-      (λ _. pays_more trace left J (c.run + c.word * length ws) (burst_makes c n) b _ (run_makes c (length ws) n as_many (omega arith) few) (port.run b e.register ws j))
-      (λ _. pays_more trace left J c.update (burst_makes c n) b _ (update_makes c n (omega arith)) (port.update b e.register e.patch j))
+  passed_costs b (e ∷ []) j linked few =
+      let did = port.update b e.register e.patch j in
+      pays_more trace left J c.update (burst_makes c 1) b _ (update_makes c 1 (omega arith)) did
+  passed_costs b (e ∷ next ∷ es) j linked few =
+      let n = length (e ∷ next ∷ es) in
+      let ws = words_of (e ∷ next ∷ es) in
+      let makes = run_makes c (length ws) n (length-map (e ∷ next ∷ es) _) (omega arith) few in
+      let did = port.run b e.register ws j in
+      pays_more trace left J (c.run + c.word * length ws) (burst_makes c n) b _ makes did
 
   -- What sending costs: nothing where all is accepted, and one burst where one failed, since its entries still wait.
   abbrev Sends : D → Reply × D → Type 0

@@ -40,7 +40,7 @@ owing_costs c =
 abbrev pub keeper_costs : Bool → Costs → Costs
 keeper_costs keeps c = cond keeps (sending_costs c) (owing_costs c)
 
--- What one entry that waits may cost: it goes as an update or in a run of one, or its share of a longer one is less.
+-- What one entry that waits may cost: an update, or its share of a run, less than a run of one.
 abbrev pub waiting_cost : Costs → ℕ
 waiting_cost c = max c.update (owed_cost c)
 

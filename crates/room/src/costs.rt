@@ -1,11 +1,10 @@
 // The events of calls on a port.
-ghost use Rattle.std.specs.Prelude.{◌≡◌, ◌+◌, ◌*◌, ◌^◌, ◌<◌, false, sum_by, IfOk, OkIff, SomeIff};
+ghost use Rattle.std.specs.Prelude.{◌≡◌, ◌+◌, ◌*◌, ◌^◌, ◌<◌, false, sum_by, SomeIff};
 ghost use Rattle.room.specs.Costing.{paging_costs, owing_costs, keeper_costs, longest_cost, deferral_costs, port_call_cost};
 
 use crate::events::{GET, MOST_WORDS, put_events};
 use calls::PortCall;
 use owed::marks::REGISTERS;
-use std::alloc::AllocError;
 
 // The most events that a call on a port makes. What it leaves owed is counted with it, although a later call sends that.
 #[derive(Debug, Clone, Copy, PartialEq, Eq)]
@@ -34,22 +33,22 @@ impl Costs {
         }
     }
 
-    // A keeper over a port of these costs, which itself keeps or does not. Over one that keeps it owes nothing. Where a number
-    // cannot tell its costs, there is no memory for them.
-    pub fn keeper(self, keeps: bool) -> Result<Costs, AllocError>
-        ensures { OkIff result (keeps ≡ false → (longest_cost self < 2 ^ 64) × ((owing_costs self).down < 2 ^ 64)) (keeper_costs keeps self) }
+    // A keeper over a port of these costs, which itself keeps or does not. Over one that keeps it owes nothing. None exactly where 64
+    // bits cannot tell its costs.
+    pub fn keeper(self, keeps: bool) -> Option<Costs>
+        ensures { SomeIff result (keeps ≡ false → (longest_cost self < 2 ^ 64) × ((owing_costs self).down < 2 ^ 64)) (keeper_costs keeps self) }
     {
         if keeps {
-            return Ok(Costs {
+            return Some(Costs {
                 run: 0,
                 word: self.update,
                 ..self
             });
         }
-        self.owing().ok_or(AllocError)
+        self.owing()
     }
 
-    // A keeper whose port forgets; None where a number cannot tell its costs.
+    // A keeper whose port forgets.
     fn owing(self) -> Option<Costs>
         ensures { SomeIff result ((longest_cost self < 2 ^ 64) × ((owing_costs self).down < 2 ^ 64)) (owing_costs self) }
     {
@@ -65,15 +64,8 @@ impl Costs {
         })
     }
 
-    // A deferral over a port of these costs; where a number cannot tell its costs, there is no memory for them.
-    pub fn deferral(self) -> Result<Costs, AllocError>
-        ensures { OkIff result (longest_cost self < 2 ^ 64) (deferral_costs self) }
-    {
-        self.deferring().ok_or(AllocError)
-    }
-
-    // None where a number cannot tell them.
-    fn deferring(self) -> Option<Costs>
+    // A deferral over a port of these costs; None exactly where 64 bits cannot tell its costs.
+    pub fn deferral(self) -> Option<Costs>
         ensures { SomeIff result (longest_cost self < 2 ^ 64) (deferral_costs self) }
     {
         let waiting = self.update.max(self.run_of(1)?);
@@ -87,7 +79,7 @@ impl Costs {
         })
     }
 
-    // A run of so many words; None where a number cannot tell its cost.
+    // A run of so many words.
     fn run_of(self, words: usize) -> Option<usize>
         ensures { SomeIff result (self.run + words * self.word < 2 ^ 64) (self.run + words * self.word) }
     {
@@ -106,13 +98,13 @@ impl Costs {
         }
     }
 
-    // The most events of a list of calls; where a number cannot tell it, there is no memory for them.
-    pub fn room(self, calls: &[PortCall]) -> Result<usize, AllocError>
-        ensures { IfOk result (λ n. n ≡ sum_by (port_call_cost self) calls.now) }
+    // The most events of a list of calls; None exactly where 64 bits cannot tell it.
+    pub fn room(self, calls: &[PortCall]) -> Option<usize>
+        ensures { let most = sum_by (port_call_cost self) calls.now in
+            SomeIff result (most < 2 ^ 64) most }
     {
         calls
             .iter()
             .try_fold(0usize, |all, call| all.checked_add(self.of(call)))
-            .ok_or(AllocError)
     }
 }

@@ -1,10 +1,9 @@
 // The events of calls on a bus.
-ghost use Rattle.std.specs.Prelude.{◌≡◌, sum_by, IfOk};
+ghost use Rattle.std.specs.Prelude.{◌≡◌, ◌^◌, ◌<◌, sum_by, SomeIff};
 ghost use Rattle.calls.specs.Asked.{asked};
 ghost use Rattle.room.specs.Events.{put_events, call_events};
 
 use calls::Call;
-use std::alloc::AllocError;
 
 // The most words that one put carries, and one run.
 pub(crate) const MOST_WORDS: usize = 16;
@@ -30,12 +29,12 @@ fn call_events(call: &Call) -> usize
     }
 }
 
-// The most events of a list of calls; where a number cannot tell it, there is no memory for them.
-pub fn bus_room(calls: &[Call]) -> Result<usize, AllocError>
-    ensures { IfOk result (λ n. n ≡ sum_by (λ c. call_events (asked c)) calls.now) }
+// The most events of a list of calls; None exactly where 64 bits cannot tell it.
+pub fn bus_room(calls: &[Call]) -> Option<usize>
+    ensures { let most = sum_by (λ c. call_events (asked c)) calls.now in
+        SomeIff result (most < 2 ^ 64) most }
 {
     calls
         .iter()
         .try_fold(0usize, |all, call| all.checked_add(call_events(call)))
-        .ok_or(AllocError)
 }

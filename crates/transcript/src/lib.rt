@@ -1,7 +1,7 @@
 // Performs a bench sheet on a simulated chip, and writes down what each call answered and what passed on the wire.
 #![tactic(auto)]
 
-ghost use Rattle.std.specs.Prelude.{◌≡◌, ◌≤◌, false, map, [], IfOk, MatchResult, string_bytes};
+ghost use Rattle.std.specs.Prelude.{◌≡◌, ◌≤◌, false, map, [], IfOk, IfSome, MatchResult, string_bytes};
 ghost use Rattle.chart.specs.Replies.{told, failure_values};
 ghost use Rattle.calls.specs.Asked.{asked};
 ghost use Rattle.sheet.specs.Sheets.{on_bus, job_of, whole};
@@ -26,9 +26,9 @@ use window::window::Window;
 
 mod pile;
 
-// The costs of calls on layers over paging.
-fn pile_costs(layers: &[Layer]) -> Result<Costs, AllocError>
-    ensures { IfOk result (λ c. c ≡ pile_costs layers.now) }
+// The costs of calls on layers over paging, if 64 bits can tell them.
+fn pile_costs(layers: &[Layer]) -> Option<Costs>
+    ensures { IfSome result (λ c. c ≡ pile_costs layers.now) }
 {
     let mut costs = Costs::paging();
     let mut keeps = false;
@@ -41,12 +41,12 @@ fn pile_costs(layers: &[Layer]) -> Result<Costs, AllocError>
             Layer::Deferral => costs = costs.deferral()?,
         }
     }
-    Ok(costs)
+    Some(costs)
 }
 
-// The room that all calls need; where a number cannot tell it, there is no memory for it.
-fn room(calls: &Calls) -> Result<usize, AllocError>
-    ensures { IfOk result (λ n. n ≡ job_room (job_of calls.now)) }
+// The room that all calls need, if 64 bits can tell it.
+fn room(calls: &Calls) -> Option<usize>
+    ensures { IfSome result (λ n. n ≡ job_room (job_of calls.now)) }
 {
     match calls {
         Calls::Bus(calls) => bus_room(calls.as_slice()),
@@ -54,11 +54,12 @@ fn room(calls: &Calls) -> Result<usize, AllocError>
     }
 }
 
-// An empty trace with room for all that calls make pass.
+// An empty trace with room for all that calls make pass. More events than a number can tell are more than any memory holds.
 fn trace_for(heap: Global, calls: &Calls) -> Result<Trace, AllocError>
     ensures { IfOk result (λ t. (t.events ≡ []) × (t.overrun ≡ false) × (job_room (job_of calls.now) ≤ t.room)) }
 {
-    Trace::new(heap, room(calls)?)
+    let room = room(calls).ok_or(AllocError)?;
+    Trace::new(heap, room)
 }
 
 // Performs calls on a bus, and tells what came of them. The clause names the steps at the bus's own chart, as in `Bus`.

@@ -8,23 +8,32 @@ use Rattle.chip.specs.Words.{rising, all_stored}
 use Rattle.i2c_target.specs.declared.event.Event.TheVariants.{Start, Byte, Stop}
 use Rattle.wire.specs.Frames.{put_frame, get_frame}
 use Rattle.pages.specs.Places.{page_of, raw_of}
-use Rattle.bus.specs.I2cs.{I2cModel, first_mark, get_sent, put_sent, i2c_chip, i2c_steps, new_i2c}
+use Rattle.bus.specs.I2cs.{I2cModel, first_mark, i2c_chip, i2c_steps, new_i2c}
+use Rattle.bus.specs.Meaning.{Steps}
 use Rattle.i2c_target.specs.Traces.{Traced}
 use Rattle.port.specs.Meaning.{PortSteps}
 use Rattle.pages.specs.Machine.{PagingModel, paged, paging_steps}
 use Rattle.owed.specs.Runs.{tallied}
 use Rattle.keeping.specs.Machine.{KeeperModel, new_keeper, keeper_steps}
 
--- a get on any chip, under this mark, gets this reply
-abbrev pub GetUnder : ℕ → Reply → Type 0
-GetUnder mark r = (m : I2cModel) → first_mark m.line.marks ≡ mark → (get_sent m 5).0 ≡ r
+-- a bus of the head chart, behind I2C
+abbrev pub bus : Steps I2cModel
+bus = i2c_steps head_class head_reset
 
--- a put of any three words on any chip, under this mark, gets this reply and stores its first k words
+-- awake, with this mark next on its line
+abbrev pub Awaits : ℕ → I2cModel → Type 0
+Awaits mark m = (m.supply ≡ true) × (first_mark m.line.marks ≡ mark)
+
+-- under this mark a get at raw address 5 gets this reply
+abbrev pub GetUnder : ℕ → Reply → Type 0
+GetUnder mark r = (m : I2cModel) → Awaits mark m → (bus.get m 5).0 ≡ r
+
+-- under this mark a put of any three words from raw address 5 on gets this reply, and stores its first k words
 abbrev pub PutOfThree : ℕ → Reply → ℕ → Type 0
 PutOfThree mark r k =
-    (m : I2cModel) (u v w : ℕ) → first_mark m.line.marks ≡ mark
-    → ((put_sent m 5 (u ∷ v ∷ w ∷ [])).0 ≡ r)
-    × ((i2c_chip (put_sent m 5 (u ∷ v ∷ w ∷ [])).1).words ≡ all_stored m.wire.words (rising 5 (take k (u ∷ v ∷ w ∷ []))))
+    (m : I2cModel) (u v w : ℕ) → Awaits mark m
+    → let put = bus.put m 5 (u ∷ v ∷ w ∷ []) in
+    (put.0 ≡ r) × ((i2c_chip put.1).words ≡ all_stored m.wire.words (rising 5 (take k (u ∷ v ∷ w ∷ []))))
 
 -- a register lies on this page, at this raw address
 abbrev pub LiesAt : ℕ → ℕ → ℕ → Type 0
@@ -43,16 +52,21 @@ step = keeper_steps (paging_steps (i2c_steps head_class head_reset) i2c_chip hea
 abbrev pub set_to : ℕ → ℕ → Piled → Reply × Piled
 set_to n w m = step.update m n (setting_to w)
 
--- Register 1 is set to 7, the supply goes, and 2 is set to 9: two settings are owed, in one run. Then 2 is set to 0, its reset word, and one is owed.
+-- a call is accepted, and this much is owed then, in this many runs
+abbrev pub LeavesOwed : Reply × Piled → ℕ → ℕ → Type 0
+LeavesOwed q settings runs = (q.0 ≡ accepted []) × (tallied q.1.owed ≡ (settings, runs))
+
+-- Register 1 is set to 7, the supply goes, and 2 is set to 9: two settings are owed, in one run. Then 2 is set to 0, its reset word, and one is
+-- owed. The line decides on the first reply alone: what comes with the supply off is accepted.
 abbrev pub OwedOverADown : Type 0
 OwedOverADown =
     (a : ℕ) (marks : List ℕ) (tr : Traced) → (set_to 1 7 (piled a marks tr)).0 ≡ accepted []
-    → let two = (set_to 2 9 (step.down (set_to 1 7 (piled a marks tr)).1)).1 in
-    (tallied two.owed ≡ (2, 1)) × (tallied (set_to 2 0 two).1.owed ≡ (1, 1))
+    → let two = set_to 2 9 (step.down (set_to 1 7 (piled a marks tr)).1) in
+    LeavesOwed two 2 1 × LeavesOwed (set_to 2 0 two.1) 1 1
 
--- on a line without faults that update is accepted
+-- on a line without faults that update is accepted too
 abbrev pub GoodLine : Type 0
-GoodLine = (a : ℕ) (tr : Traced) → (set_to 1 7 (piled a [] tr)).0 ≡ accepted []
+GoodLine = (a : ℕ) (tr : Traced) → LeavesOwed (set_to 1 7 (piled a [] tr)) 0 0
 
 -- registers 1 to 19 and 32 owed
 abbrev pub nineteen_and_one : List Bool

@@ -1,0 +1,56 @@
+// The entries of a table as they lie, whatever is in them: it lends one.
+ghost use Rattle.std.specs.Prelude.{◌≡◌, ◌<◌, ◌≤◌, ◌↔◌, IsSome, IfSome, length, slice_index_or};
+ghost use Rattle.std.specs.Borrow.{sem};
+ghost use Rattle.entries.specs.Entries.{placed};
+ghost use Rattle.entries.specs.Places.{place};
+ghost use Rattle.entries.specs.Lending.{LendsEntry};
+
+use crate::entry::Entry;
+use arrayvec::ArrayVec;
+use chart::patch::Patch;
+
+// The most entries of a table; so a run of entries is never too long.
+pub const MOST_ENTRIES: usize = 16;
+
+#[derive(Debug, Drop)]
+pub struct Slots {
+    pub entries: ArrayVec<Entry, MOST_ENTRIES>,
+}
+
+// How many entries lie before the place of a register.
+fn place_of(entries: &[Entry], register: u16) -> usize
+    ensures value { result ≡ place register entries.now }
+    ensures within { result ≤ length entries.now }
+{
+    entries
+        .iter()
+        .take_while(|entry| entry.register < register)
+        .count()
+}
+
+impl Slots {
+    // Lends one entry.
+    pub fn entry(&mut self, at: usize) -> Option<&mut Entry>
+        ensures* writes_back { sem 𝓛 (LendsEntry self.entry at result) }
+        ensures variant { IsSome result ↔ (at < length self.old.entries.items) }
+        ensures value { IfSome result (λ e.
+            e.now ≡ slice_index_or self.old.entries.items at e.now) }
+    {
+        self.entries.get_mut(at)
+    }
+
+    // An update is joined to the entry of its register, which is changed where it lies, or is
+    // inserted in its order.
+    #[tactic(auto, using(crate::proofs::Inserting::placing))]
+    pub(crate) fn place(&mut self, register: u16, patch: Patch)
+        requires { length (placed register patch self.old.entries.items) ≤ 16 }
+        ensures { self.new.entries.items ≡ placed register patch self.old.entries.items }
+    {
+        let at = place_of(&self.entries, register);
+        match self.entry(at) {
+            Some(entry) if entry.register == register => entry.join(patch),
+            Some(_) => self.entries.insert(at, Entry::new(register, patch)),
+            None => self.entries.push(Entry::new(register, patch)),
+        }
+    }
+}
