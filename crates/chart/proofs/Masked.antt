@@ -3,8 +3,10 @@ use Rattle.std.proofs.Common.{◌≡◌, ℕ, ◌-◌, ◌^◌, ◌<◌, min, ma
 use Rattle.std.specs.Int.{bit_at, w16}
 use lib.Bits.{bit_and, and_le_r, and_mask, and_zero_r, or_zero_r, or_lt}
 use Rattle.std.proofs.lemmas.Bool.{eqb-true}
-use Rattle.std.proofs.lemmas.Nat.Bits.{bit_at_and, bit_at_or, bit_at_not, bit_at-lt, same_from_bits_below}
-use Rattle.chart.specs.Patch.{acted, joined, idle, complete, setting_to, ActsByBits, JoinsByBits, JoinActs, JoinExample, Idles, Completes}
+use Rattle.std.proofs.lemmas.Nat.Bits.{bit_at_and, bit_at_or, bit_at_not, bit_at-lt}
+use Rattle.std.proofs.lemmas.Nat.Bits.{same_from_bits_below}
+use Rattle.chart.specs.Patch.{acted, joined, idle, complete, setting_to, ActsByBits}
+use Rattle.chart.specs.Patch.{JoinsByBits, JoinActs, JoinExample, Idles, Completes}
 use Rattle.chart.specs.declared.patch.Patch.{Patch}
 
 pub acted_fits : (p : Patch) (word : ℕ) → p.mask < 2 ^ 16 → acted p word < 2 ^ 16
@@ -36,8 +38,10 @@ module _ (p later : Patch) (hp : p.mask < 2 ^ 16) (hl : later.mask < 2 ^ 16) whe
   joins_by_bits k hk =
       let mask = bit_at_or p.mask later.mask k in
       let on_bits = acts_by_bits later p.bits hl k hk in
-      let either : bit_at p.mask k < 2 = bit_at-lt p.mask k in
-      (λ one. (omega (arith, one, mask, either), on_bits.0 one), λ none. (omega (arith, none, mask), on_bits.1 none))
+      let either : bit_at p.mask k < 2 = bit_at-lt p.mask k in (
+        λ one. (omega (arith, one, mask, either), on_bits.0 one),
+        λ none. (omega (arith, none, mask), on_bits.1 none),
+      )
 
   pub join_acts : JoinActs p later (joined p later)
   join_acts word hw =

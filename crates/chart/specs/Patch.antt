@@ -16,12 +16,14 @@ abbrev pub ActsByBits : Patch → ℕ → ℕ → Type 0
 ActsByBits p word r =
     (k : ℕ) → k < 16 → (bit_at p.mask k ≡ 1 → bit_at r k ≡ bit_at p.bits k) × (bit_at p.mask k ≡ 0 → bit_at r k ≡ bit_at word k)
 
--- bit by bit, r has the later patch's bit where the later mask has one, and elsewhere the earlier patch's: of the mask and of the bits
+-- Bit by bit, of the mask and of the bits: r has the later patch's where the later mask has a bit, and
+-- elsewhere the earlier patch's.
 abbrev pub JoinsByBits : Patch → Patch → Patch → Type 0
 JoinsByBits p later r =
     (k : ℕ) → k < 16
     → (bit_at later.mask k ≡ 1 → (bit_at r.mask k ≡ 1) × (bit_at r.bits k ≡ bit_at later.bits k))
-    × (bit_at later.mask k ≡ 0 → (bit_at r.mask k ≡ bit_at p.mask k) × (bit_at r.bits k ≡ bit_at p.bits k))
+    × (bit_at later.mask k ≡ 0
+    → (bit_at r.mask k ≡ bit_at p.mask k) × (bit_at r.bits k ≡ bit_at p.bits k))
 
 -- r does to every word what p and then the later patch do
 abbrev pub JoinActs : Patch → Patch → Patch → Type 0

@@ -1,6 +1,7 @@
 // A masked update of a 16-bit word: the bits under the mask are replaced, the others stand.
 ghost use Rattle.std.specs.Prelude.{◌≡◌};
-ghost use Rattle.chart.specs.Patch.{acted, joined, idle, complete, setting_to, ActsByBits, JoinsByBits, JoinActs, Idles, Completes, Sets};
+ghost use Rattle.chart.specs.Patch.{acted, joined, idle, complete, setting_to, ActsByBits};
+ghost use Rattle.chart.specs.Patch.{JoinsByBits, JoinActs, Idles, Completes, Sets};
 
 // By default it changes nothing.
 #[derive(Debug, Default, Clone, Copy, PartialEq, Eq)]

@@ -15,8 +15,9 @@ use Rattle.chart.proofs.Masked.{completes}
 use Rattle.bus.specs.Chips.{Chip}
 use Rattle.port.specs.Checks.{read_check, update_check, is_accepted, onward}
 use Rattle.port.specs.Meaning.{PortSteps}
-use Rattle.layers.specs.Layers.{on_owed, Taken, EndedAt, SentInPieces}
-use Rattle.layers.proofs.InPieces.{PieceBack, sent_in_pieces}
+use Rattle.port.specs.Pieces.{Taken, EndedAt}
+use Rattle.layers.specs.Layers.{on_owed, SentInPieces}
+use Rattle.port.proofs.InPieces.{PieceBack, sent_in_pieces, in_order}
 use Rattle.entries.specs.Entries.{entry_of, found, takes, HasEntry, FindsPlace, entered, Linked}
 use Rattle.entries.specs.Entries.{bursts, AreBursts, words_of}
 use Rattle.entries.specs.declared.entry.Entry.{Entry}
@@ -96,7 +97,7 @@ module _ {M : Type 0} (step : PortSteps M) where
     kept = ⊎_elim (λ ok. rw ok refl) (λ no. rw no refl) (cases_Bool (is_accepted p.0))
 
   came_back : (m : D) (burst : List Entry)
-      → PieceBack call without below own (burst_sent step) m burst
+      → PieceBack on_owed (λ c. refl) call without below own (burst_sent step) m burst
   came_back m burst =
       let n = length burst in
       let p = passed step m.below burst in
@@ -106,11 +107,12 @@ module _ {M : Type 0} (step : PortSteps M) where
       → let q = entries_sent step m in
       SentInPieces call without (bursts m.entries) m.entries m.below q.0 q.1.entries q.1.below
   in_bursts m =
-      sent_in_pieces call without below own (burst_sent step) came_back (bursts m.entries) m
+      sent_in_pieces on_owed (λ c. refl) call without below own (burst_sent step) came_back
+      (bursts m.entries) m
 
   -- once all bursts were accepted nothing is left
   none_after : (bs : List (List Entry)) (s t : List Entry) (b c : M) → AreBursts s bs
-      → Taken call without bs s b t c → t ≡ []
+      → Taken on_owed call without bs s b t c → t ≡ []
   none_after [] s t b c are taken = taken.0 ∙ are
   none_after (burst ∷ bs) s t b c (rest, split, linked, ends, more) taken =
       let left : rest ≡ without burst s =
@@ -120,8 +122,8 @@ module _ {M : Type 0} (step : PortSteps M) where
 
   -- so none is where the sending was accepted
   none_once : (gone left : List (List Entry)) (s t : List Entry) (b between c : M) (r : Reply)
-      → bursts s ≡ gone ++ left → Taken call without gone s b t between
-      → EndedAt call without left t between r c → r.number ≡ 0 → t ≡ []
+      → bursts s ≡ gone ++ left → Taken on_owed call without gone s b t between
+      → EndedAt on_owed call without left t between r c → r.number ≡ 0 → t ≡ []
   none_once gone [] s t b between c r whole taken ended ok =
       let all = subst (AreBursts s) (whole ∙ append-nil gone) (bursts_are s) in
       none_after gone s t b between all taken
@@ -131,11 +133,11 @@ module _ {M : Type 0} (step : PortSteps M) where
   none_waits : (m : D) → (entries_sent step m).0.number ≡ 0 → (entries_sent step m).1.entries ≡ []
   none_waits m ok =
       let is = in_bursts m in
-      none_once is.gone is.left m.entries _ m.below is.between _ _ is.whole is.taken is.ended ok
+      none_once is.front is.rest m.entries _ m.below is.between _ _ is.whole is.taken is.ended ok
 
   -- whatever is left was there before
   still_there : (n : ℕ) (bs : List (List Entry)) (s t : List Entry) (b c : M)
-      → Taken call without bs s b t c → HasEntry n t → HasEntry n s
+      → Taken on_owed call without bs s b t c → HasEntry n t → HasEntry n s
   still_there n [] s t b c taken has = subst (HasEntry n) taken.0 has
   still_there n (burst ∷ bs) s t b c taken has =
       let before = still_there n bs (without burst s) t (call s b burst).1 c taken.1 has in
@@ -144,7 +146,7 @@ module _ {M : Type 0} (step : PortSteps M) where
   was_there : (m : D) (n : ℕ) → HasEntry n (entries_sent step m).1.entries → HasEntry n m.entries
   was_there m n has =
       let is = in_bursts m in
-      still_there n is.gone m.entries _ m.below is.between is.taken has
+      still_there n is.front m.entries _ m.below is.between is.taken has
 
 -- a call on a setting at hand is not refused before anything is sent
 update_goes : (keeps on : Bool) (c : Class) → c ≡ Setting → (keeps || on) ≡ true
@@ -251,12 +253,12 @@ module _ {M : Type 0} (step : PortSteps M) (chip : M → Chip) (keeps : Bool)
 
   pub deferral_lawful : DeferralLaws step chip keeps class deferral
   deferral_lawful = record {
-    passed = passed step;
+    burst_call = passed step;
     one_entry = λ b e. refl;
     more_entries = λ b e next es linked.
         let whole = whole_mask e linked.0.0 in
         (words_of (e ∷ next ∷ es), are_words e (next ∷ es) whole linked, refl);
-    sent = sent;
+    sending = sent;
     in_bursts = in_bursts step;
     update_waits = waits;
     update_refused = refused;
@@ -278,7 +280,7 @@ module _ {M : Type 0} (step : PortSteps M) (chip : M → Chip) (keeps : Bool)
         reads_live m n is awake
         ∙ went_on (sent m) (λ k. back k (step.read k.below n)) ok
         ∙ ap (λ es. outcome q.0 q.1 es) (none_waits step m ok);
-    run = λ m first ws goes. rw goes refl;
+    run = λ m first ws goes. rw goes (in_order deferral.update m first ws);
     measure = λ m n w. refl;
     up = λ m. refl;
     down_forgets = λ m no. rw no refl;

@@ -9,7 +9,7 @@ use Rattle.chart.specs.declared.patch.Patch.{Patch}
 use Rattle.bus.specs.Chips.{Chip}
 use Rattle.port.specs.Checks.{run_check}
 use Rattle.port.specs.Meaning.{PortSteps}
-use Rattle.port.specs.OneByOne.{one_by_one}
+use Rattle.port.specs.OneByOne.{InOrder}
 use Rattle.layers.specs.Layers.{SentInPieces}
 use Rattle.entries.specs.Entries.{entry_of, found, HasEntry, FindsPlace, entered, Linked, bursts}
 use Rattle.entries.specs.declared.entry.Entry.{Entry}
@@ -37,18 +37,18 @@ module _ {M : Type 0} (step : PortSteps M) (chip : M → Chip) (keeps : Bool)
 
   pub record DeferralLaws (deferral : PortSteps D) : Type 0 where
     -- How a burst goes below. One entry goes as one update with its patch;
-    pub passed : M → List Entry → Reply × M
-    pub one_entry : (b : M) (e : Entry) → passed b (e ∷ []) ≡ step.update b e.register e.patch
+    pub burst_call : M → List Entry → Reply × M
+    pub one_entry : (b : M) (e : Entry) → burst_call b (e ∷ []) ≡ step.update b e.register e.patch
     -- two or more, which then follow each other, go as one run of their words.
     pub more_entries : (b : M) (e next : Entry) (es : List Entry) → Linked (e ∷ next ∷ es)
         → (ws : List ℕ) × AreWordsOf (e ∷ next ∷ es) ws
-        × (passed b (e ∷ next ∷ es) ≡ step.run b e.register ws)
+        × (burst_call b (e ∷ next ∷ es) ≡ step.run b e.register ws)
     -- All entries are sent burst by burst. Those of a burst that is accepted are gone; at the first
     -- that is refused the sending ends, told as owed, and its entries and all behind them stay.
-    pub sent : D → Reply × D
+    pub sending : D → Reply × D
     pub in_bursts : (m : D)
-        → SentInPieces (λ _. passed) (λ burst es. drop (length burst) es)
-        (bursts m.entries) m.entries m.below (sent m).0 (sent m).1.entries (sent m).1.below
+        → SentInPieces (λ _. burst_call) (λ burst es. drop (length burst) es)
+        (bursts m.entries) m.entries m.below (sending m).0 (sending m).1.entries (sending m).1.below
     -- An update that changes nothing, or whose register has an entry, or that finds fewer than 16
     -- entries, is accepted and waits from then on. The port below is as it was.
     pub update_waits : (m : D) (n : ℕ) (p : Patch) → AtHand m n → FindsPlace n p m.entries
@@ -56,12 +56,12 @@ module _ {M : Type 0} (step : PortSteps M) (chip : M → Chip) (keeps : Bool)
     -- Any other has all entries sent first. If that is refused, the update ends with that reply,
     -- and there is no entry for it;
     pub update_refused : (m : D) (n : ℕ) (p : Patch) → AtHand m n → ¬ FindsPlace n p m.entries
-        → (sent m).0.number ≢ 0
-        → (deferral.update m n p ≡ sent m) × ¬ HasEntry n (sent m).1.entries
+        → (sending m).0.number ≢ 0
+        → (deferral.update m n p ≡ sending m) × ¬ HasEntry n (sending m).1.entries
     -- if it is accepted, so is the update, and its entry is the only one.
     pub update_alone : (m : D) (n : ℕ) (p : Patch) → AtHand m n → ¬ FindsPlace n p m.entries
-        → (sent m).0.number ≡ 0
-        → deferral.update m n p ≡ outcome (accepted []) (sent m).1.below (entry_of n p ∷ [])
+        → (sending m).0.number ≡ 0
+        → deferral.update m n p ≡ outcome (accepted []) (sending m).1.below (entry_of n p ∷ [])
     -- A setting for which a full mask waits is answered with what its entry makes of any word.
     -- Nothing changes, neither here nor below.
     pub read_whole : (m : D) (n : ℕ) (p : Patch) → AtHand m n → found n m.entries ≡ Some p
@@ -82,16 +82,16 @@ module _ {M : Type 0} (step : PortSteps M) (chip : M → Chip) (keeps : Bool)
     -- A live register, with the supply on, has all entries sent first. If that is refused, the read
     -- ends with that reply;
     pub live_refused : (m : D) (n : ℕ) → class n ≡ Live → (chip m.below).supply ≡ true
-        → (sent m).0.number ≢ 0 → deferral.read m n ≡ sent m
+        → (sending m).0.number ≢ 0 → deferral.read m n ≡ sending m
     -- if it is accepted, the read goes below. Its reply is as it came, and no entry waits.
     pub live_read : (m : D) (n : ℕ) → class n ≡ Live → (chip m.below).supply ≡ true
-        → (sent m).0.number ≡ 0
-        → let q = step.read (sent m).1.below n in deferral.read m n ≡ outcome q.0 q.1 []
+        → (sending m).0.number ≡ 0
+        → let q = step.read (sending m).1.below n in deferral.read m n ≡ outcome q.0 q.1 []
     -- A run that is not refused before anything is sent is an update for each of its words, up to
     -- the first that is refused.
     pub run : (m : D) (first : ℕ) (ws : List ℕ)
         → run_check keeps class first (length ws) (chip m.below).supply ≡ None
-        → deferral.run m first ws ≡ one_by_one deferral.update m first ws
+        → let q = deferral.run m first ws in InOrder deferral.update first ws m q.0 q.1
     -- A measurement goes below and comes back as it came, and the supply comes back below. The
     -- entries stand.
     pub measure : (m : D) (n w : ℕ)

@@ -1,5 +1,5 @@
 // Settings that outlive the supply, over any port: each is held here, and what the port below lost is owed to it until the next live read.
-ghost use Rattle.std.specs.Prelude.{◌≡◌, ℕ, ◌+◌, ◌≤◌, false, take, drop, sum_by, true};
+ghost use Rattle.std.specs.Prelude.{◌≡◌, ℕ, ◌+◌, ◌≤◌, false, take, drop, length, sum_by, true};
 ghost use Rattle.chart.specs.Replies.{port_reply, word_value, no_value};
 ghost use Rattle.layers.specs.Layers.{FaultIsOwed};
 ghost use Rattle.owed.specs.Runs.{marked, runs, AreRuns, tallied, which_reply, SomeOwed};
@@ -60,6 +60,7 @@ impl<P: Port> Keeper<P> {
         ensures value { result ≡ tallied self.now.owed }
         ensures law { AreRuns (marked self.now.owed) 0 (runs self.now.owed) }
         ensures sum { sum_by (λ r. r.count) (runs self.now.owed) ≡ result.0 }
+        ensures runs { length (runs self.now.owed) ≡ result.1 }
     {
         self.owed.tally()
     }

@@ -15,7 +15,7 @@ use Rattle.bus.specs.Chips.{Chip}
 use Rattle.port.specs.Checks.{is_accepted}
 use Rattle.port.specs.Meaning.{PortSteps}
 use Rattle.layers.specs.Layers.{on_owed}
-use Rattle.layers.proofs.InPieces.{PieceBack, sent_in_pieces}
+use Rattle.port.proofs.InPieces.{PieceBack, sent_in_pieces, in_order}
 use Rattle.owed.specs.Runs.{marked, runs, differing}
 use Rattle.owed.specs.declared.runs.Run.{Run}
 use Rattle.owed.proofs.Marking.{marked_set, marked_set_other, marked_differing}
@@ -53,7 +53,8 @@ module _ {M : Type 0} (step : PortSteps M) where
   came_back m r c = search rules
 
   piece : (m : K) (r : Run)
-      → PieceBack (run_below step) without_run (λ k. k.below) own (run_sent step) m r
+      → PieceBack on_owed (λ c. refl) (run_below step) without_run (λ k. k.below) own
+      (run_sent step) m r
   piece m r =
       let called = step.run m.below r.first in
       let left = subst (λ c. RunBack m r (run_sent step m r) c)
@@ -64,8 +65,8 @@ module _ {M : Type 0} (step : PortSteps M) where
   is_live_read : (m : K) (n : ℕ) → ReadsLive step n m (live_read step m n)
   is_live_read m n =
       let q = owed_sent step m in
-      let sent = sent_in_pieces (run_below step) without_run (λ (k : K). k.below) own
-      (run_sent step) piece (runs m.owed) m in
+      let sent = sent_in_pieces on_owed (λ c. refl) (run_below step) without_run
+      (λ (k : K). k.below) own (run_sent step) piece (runs m.owed) m in
       cond_both (is_accepted q.0) (back q.1 (step.read q.1.below n)) q (ReadsLive step n m)
       (λ ok. record {
         answer = q.0;
@@ -150,7 +151,8 @@ module _ {count : ℕ} {class : ℕ → Class} {reset : ℕ → ℕ} (chart : Ch
     other_update = λ m n p k c goes other.
         let w = acted p (held_at m n) in
         rw (c, goes, not_there m n w other) (sends m n w k c);
-    run = λ m first ws goes. rw goes refl;
+    run = λ m first ws goes.
+        rw goes (in_order (keeper_steps step chip keeps class reset).update m first ws);
     live_read = λ m n c awake. rw (c, awake) (is_live_read step m n);
     measure = λ m n w. (record { reply = refl; below = refl }, refl);
     up = λ m. (refl, refl);

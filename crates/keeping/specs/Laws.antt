@@ -10,7 +10,7 @@ use Rattle.chart.specs.declared.patch.Patch.{Patch}
 use Rattle.bus.specs.Chips.{Chip}
 use Rattle.port.specs.Checks.{run_check}
 use Rattle.port.specs.Meaning.{PortSteps}
-use Rattle.port.specs.OneByOne.{one_by_one}
+use Rattle.port.specs.OneByOne.{InOrder}
 use Rattle.layers.specs.Layers.{SentInPieces}
 use Rattle.owed.specs.Runs.{runs, cleared}
 use Rattle.owed.specs.declared.runs.Run.{Run}
@@ -98,7 +98,7 @@ module _ {M : Type 0} (step : PortSteps M) (chip : M → Chip) (keeps : Bool)
     -- A run that is not refused as a whole is an update for each word, up to one that is refused.
     pub run : (m : KeeperModel M) (first : ℕ) (ws : List ℕ)
         → run_check true class first (length ws) (supply m) ≡ None
-        → keeper.run m first ws ≡ one_by_one keeper.update m first ws
+        → let q = keeper.run m first ws in InOrder keeper.update first ws m q.0 q.1
     -- With the supply on, what is owed goes ahead of a live read.
     pub live_read : (m : KeeperModel M) (n : ℕ) → class n ≡ Live → supply m ≡ true
         → ReadsLive step n m (keeper.read m n)

@@ -1,5 +1,6 @@
 -- What is owed, and the runs in which it is sent. Marks are a list of booleans, one for each register by its number. Assumes nothing.
-use Rattle.std.specs.Prelude.{◌≡◌, ℕ, zero, suc, ◌+◌, ◌<◌, ◌≤◌, min, Bool, true, false, not, ◌⊎◌, List, [], ◌∷◌, length, count_by, ◌==◌, slice_index, slice_index_or, slice_set, Option, Some, None}
+use Rattle.std.specs.Prelude.{◌≡◌, ℕ, zero, suc, ◌+◌, ◌<◌, ◌≤◌, min, Bool, true, false, not, ◌⊎◌}
+use Rattle.std.specs.Prelude.{List, [], ◌∷◌, length, count_by, ◌==◌, slice_index, slice_index_or, slice_set, Option, Some, None}
 use Rattle.chart.specs.Replies.{Reply}
 use Rattle.std.specs.List.{prefix_len}
 use Rattle.owed.specs.declared.runs.Run.{Run}
@@ -47,11 +48,11 @@ abbrev pub which_reply : Option ℕ → Reply
 which_reply None = record { number = 0; values = [] }
 which_reply (Some n) = record { number = 1; values = n ∷ [] }
 
--- some owed number, or none exactly where nothing is owed
+-- none, and then nothing is owed; or some owed number
 abbrev pub SomeOwed : List Bool → Reply → Type 0
 SomeOwed bs r =
-    (r.number ≡ 0 → (n : ℕ) → marked bs n ≡ false)
-    × (r.number ≡ 1 → marked bs (slice_index r.values 0) ≡ true)
+    ((r.number ≡ 0) × ((n : ℕ) → marked bs n ≡ false))
+    ⊎ ((r.number ≡ 1) × (marked bs (slice_index r.values 0) ≡ true))
 
 -- numbers that a run has, and those that it has not
 abbrev pub InRun : Run → ℕ → Type 0

@@ -1,6 +1,7 @@
 // Which settings a keeper owes to what it stands on.
 ghost use Rattle.std.specs.Prelude.{◌≡◌, false, length, replicate, sum_by, slice_set};
-ghost use Rattle.owed.specs.Runs.{marked, runs, AreRuns, tallied, which_reply, SomeOwed, cleared, Clears, differing, Differ};
+ghost use Rattle.owed.specs.Runs.{marked, runs, AreRuns, tallied, which_reply, SomeOwed};
+ghost use Rattle.owed.specs.Runs.{cleared, Clears, differing, Differ};
 
 use crate::runs::{Run, Runs};
 use chart::class::Chart;
@@ -91,6 +92,7 @@ impl Marks {
         ensures value { result ≡ tallied self.now }
         ensures law { AreRuns (marked self.now) 0 (runs self.now) }
         ensures sum { sum_by (λ r. r.count) (runs self.now) ≡ result.0 }
+        ensures runs { length (runs self.now) ≡ result.1 }
         ensures size { length self.now ≡ 128 }
     {
         let owed = self.marks.iter().filter(|owed| **owed).count();

@@ -49,8 +49,8 @@ module _ {M : Type 0} (chip : M → Chip) where
       ((q.0 ≡ accepted []) × Leaves m q.1 (replaced n (acted p (words_at m n)) (words_at m)) 0)
       ⊎ FaultAt m n (words_at m) q
 
-  -- A run stores all its words. Or it fails at the first register whose word is not stored, and the
-  -- words before it are in the chip, and no others.
+  -- A run stores all its words. Or it fails at the first register whose word is not stored: those
+  -- below it have their new words, and every other register its old one.
   abbrev pub StoresRun : PagingModel M → ℕ → List ℕ → Outcome M → Type 0
   StoresRun m first ws q =
       ((q.0 ≡ accepted []) × Leaves m q.1 (ran first ws (words_at m)) 0)
@@ -61,13 +61,13 @@ pub record Piece : Type 0 where
   pub first : ℕ
   pub words : List ℕ
 
--- no piece comes next, or one that begins at a multiple of 32
+-- what comes next, if a piece does, begins at a multiple of 32
 abbrev pub AtMultiple : List Piece → Type 0
 AtMultiple [] = Unit {0}
 AtMultiple (p ∷ more) = p.first % 32 ≡ 0
 
--- A run cut into pieces: they join to its words, none is empty, each lies inside one block of 32,
--- each begins where the one before it ended, and each next one begins at a multiple of 32.
+-- A run cut into pieces. Joined they are its words, and none is empty. No piece goes over a
+-- multiple of 32, and all but the first begin at one, where the piece before has ended.
 abbrev pub IsCut : ℕ → List ℕ → List Piece → Type 0
 IsCut at ws [] = ws ≡ []
 IsCut at ws (p ∷ more) =
@@ -86,21 +86,21 @@ module _ {M : Type 0} (step : Steps M) where
   -- A transfer of the bus, for registers from n on, and what paging makes of it. The bus is as the
   -- transfer left it. An acceptance is answered as one; a failure by its cause, the first register
   -- whose word was not stored, and errand 0.
-  pub record Passes (n : ℕ) (sent : Reply × M) (q : Outcome M) : Type 0 where
-    pub bus : q.1.bus ≡ sent.1
-    pub fine : sent.0.number ≡ 0 → q.0.number ≡ 0
-    pub fault : (cause stored : ℕ) → sent.0 ≡ refused 6 (cause ∷ stored ∷ [])
+  pub record Passes (n : ℕ) (transfer : Reply × M) (q : Outcome M) : Type 0 where
+    pub bus : q.1.bus ≡ transfer.1
+    pub fine : transfer.0.number ≡ 0 → q.0.number ≡ 0
+    pub fault : (cause stored : ℕ) → transfer.0 ≡ refused 6 (cause ∷ stored ∷ [])
         → q.0 ≡ refused 6 (cause ∷ (n + stored) ∷ 0 ∷ [])
 
-  -- What comes before a transfer: nothing, where the register is at hand; else its page is put to
-  -- raw 0. Accepted, that page is believed; failed, none is.
+  -- What comes before a transfer: nothing, where the register is at hand. Else its page is put to
+  -- raw 0, and is the believed one from then on, or none is if the put failed.
   pub record Selects (m : PagingModel M) (n : ℕ) (q : Outcome M) : Type 0 where
     pub at_hand : IsAtHand m.page n → q ≡ (accepted [], m)
     pub away : ¬ IsAtHand m.page n →
-        let sent = step.put m.bus 0 (page_of n ∷ []) in
-        Passes n sent q
-        × (sent.0.number ≡ 0 → q.1.page ≡ Some (page_of n))
-        × (sent.0.number ≢ 0 → q.1.page ≡ None)
+        let selection = step.put m.bus 0 (page_of n ∷ []) in
+        Passes n selection q
+        × (selection.0.number ≡ 0 → q.1.page ≡ Some (page_of n))
+        × (selection.0.number ≢ 0 → q.1.page ≡ None)
 
   -- a part of a call and then the next, where a part that is refused is the answer
   pub record GoesOn (part q : Outcome M) (Next : PagingModel M → Type 0) : Type 0 where

@@ -1,11 +1,12 @@
 // A port offers a chip's registers by their chart numbers.
-ghost use Rattle.std.specs.Prelude.{◌≡◌, ℕ, Bool};
+ghost use Rattle.std.specs.Prelude.{◌≡◌, ℕ, Bool, None, length};
 ghost use Rattle.chart.specs.declared.class.Class.{Class};
 ghost use Rattle.chart.specs.Replies.{port_reply, word_value, no_value};
 ghost use Rattle.i2c_target.specs.Traces.{Traced};
 ghost use Rattle.bus.specs.Chips.{Chip};
+ghost use Rattle.port.specs.Checks.{run_check};
 ghost use Rattle.port.specs.Views.{view_of};
-ghost use Rattle.port.specs.OneByOne.{each_updated};
+ghost use Rattle.port.specs.OneByOne.{each_updated, InOrder};
 ghost use Rattle.port.specs.Meaning.{PortSteps, PortMeaning};
 
 use crate::checks::Access;
@@ -78,11 +79,19 @@ pub trait Port {
     fn run(&mut self, first: u16, words: &[u16]) -> Result<(), Refusal<Fault>>
         ensures { (port_reply no_value result, model self.new) ≡ (steps Self.Chart.Chart.classed Self.Chart.Chart.resets).run (model self.old) first words.now };
 
-    // A run by updates, for a port that has no shorter way to take one: checked whole, then its words one by one, up to the first that
-    // is refused.
-    #[tactic(auto, using(crate::proofs::Settled::run_fits))]
+    // A run by updates, for a port that has no shorter way to take one: checked whole, and then its
+    // words one by one, up to the first that is refused.
     fn update_each(&mut self, first: u16, words: &[u16]) -> Result<(), Refusal<Fault>>
-        ensures { (port_reply no_value result, model self.new) ≡ each_updated KEEPS Self.Chart.Chart.classed (λ m. (chip m).supply) (steps Self.Chart.Chart.classed Self.Chart.Chart.resets).update (model self.old) first words.now }
+        ensures value { let class = Self.Chart.Chart.classed in
+            let update = (steps class Self.Chart.Chart.resets).update in
+            let on : Model → Bool = λ m. (chip m).supply in
+            (port_reply no_value result, model self.new)
+            ≡ each_updated KEEPS class on update (model self.old) first words.now }
+        ensures order { let class = Self.Chart.Chart.classed in
+            let update = (steps class Self.Chart.Chart.resets).update in
+            let reply = port_reply no_value result in
+            run_check KEEPS class first (length words.now) (chip (model self.old)).supply ≡ None
+            → InOrder update first words.now (model self.old) reply (model self.new) }
     {
         self.access().check_run::<Self::Chart>(first, words.len())?;
         for (register, word) in (first..).zip(words) {

@@ -33,10 +33,11 @@ impl Costs {
         }
     }
 
-    // A keeper over a port of these costs, which itself keeps or does not. Over one that keeps it owes nothing. None exactly where 64
-    // bits cannot tell its costs.
+    // A keeper over a port of these costs, which itself keeps or does not. Over one that keeps it owes
+    // nothing. None exactly where 64 bits cannot tell its costs.
     pub fn keeper(self, keeps: bool) -> Option<Costs>
-        ensures { SomeIff result (keeps ≡ false → (longest_cost self < 2 ^ 64) × ((owing_costs self).down < 2 ^ 64)) (keeper_costs keeps self) }
+        ensures { let fits = (longest_cost self < 2 ^ 64) × ((owing_costs self).down < 2 ^ 64) in
+            SomeIff result (keeps ≡ false → fits) (keeper_costs keeps self) }
     {
         if keeps {
             return Some(Costs {

@@ -1,7 +1,8 @@
 // Performs a bench sheet on a simulated chip, and writes down what each call answered and what passed on the wire.
 #![tactic(auto)]
 
-ghost use Rattle.std.specs.Prelude.{◌≡◌, ◌≤◌, false, map, [], IfOk, IfSome, MatchResult, string_bytes};
+ghost use Rattle.std.specs.Prelude.{◌≡◌, ◌≤◌, false, map, [], IfOk, IfSome, MatchResult};
+ghost use Rattle.std.specs.Prelude.{string_bytes};
 ghost use Rattle.chart.specs.Replies.{told, failure_values};
 ghost use Rattle.calls.specs.Asked.{asked};
 ghost use Rattle.sheet.specs.Sheets.{on_bus, job_of, whole};
@@ -54,7 +55,8 @@ fn room(calls: &Calls) -> Option<usize>
     }
 }
 
-// An empty trace with room for all that calls make pass. More events than a number can tell are more than any memory holds.
+// An empty trace with room for all that calls make pass. More events than a number can tell are more
+// than any memory holds.
 fn trace_for(heap: Global, calls: &Calls) -> Result<Trace, AllocError>
     ensures { IfOk result (λ t. (t.events ≡ []) × (t.overrun ≡ false) × (job_room (job_of calls.now) ≤ t.room)) }
 {

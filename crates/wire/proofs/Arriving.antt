@@ -1,4 +1,4 @@
--- What the controller's end put in, the chip's end takes out. Assumes nothing.
+-- The chip's end takes out what was put in at the other end. Assumes nothing.
 use Rattle.std.proofs.Common.{◌≡◌, ℕ, ◌+◌, ◌-◌, ◌*◌, ◌/◌, ◌%◌, ◌<◌, ◌≢◌, true, false, eqb, arith}
 use Rattle.std.proofs.Common.{List, [], ◌∷◌, ◌++◌, length, map, Some, Result}
 use Rattle.std.proofs.Common.{refl, ap, ap₂, sym, ◌∙◌, ⊎_elim}
@@ -15,8 +15,8 @@ use Rattle.i2c_target.specs.declared.target.Target.{Target}
 use Rattle.i2c_target.specs.Targets.{write_byte, read_byte, in_state}
 use Rattle.wire.specs.Frames.{sent, good, answer, caught}
 use Rattle.wire.specs.Frames.{word_bytes, put_bytes, put_frame, get_frame}
-use Rattle.wire.specs.Requests.{Request, get_request, put_request, IsSendable, asking}
-use Rattle.wire.specs.Requests.{heard, taken_in, taken_out, Arrives}
+use Rattle.wire.specs.Requests.{Request, get_request, put_request, IsSendable, request_events}
+use Rattle.wire.specs.Requests.{target_after, taken_in, taken_out, Arrives}
 use Rattle.wire.proofs.Recovering.{ready, own_catches, other_catches, length-put_bytes}
 
 -- under a mark that names none of the bytes each is acknowledged
@@ -29,7 +29,7 @@ sent_good (b ∷ bs) mark g =
 
 -- words that are all acknowledged leave a target ready for more
 words_heard : (ws : List ℕ) (a p : ℕ)
-    → heard (sent (word_bytes ws) 0) (ready a p) ≡ ready a (p + length ws)
+    → target_after (sent (word_bytes ws) 0) (ready a p) ≡ ready a (p + length ws)
 words_heard [] a p = let none : p + 0 ≡ p = omega arith in rw none
 words_heard (w ∷ ws) a p =
     let next : (p % 64 + 1) % 64 ≡ (p + 1) % 64 = omega arith in
@@ -38,19 +38,19 @@ words_heard (w ∷ ws) a p =
 
 -- an idle target stays idle
 idle_hears : (bs : List ℕ) (mark : ℕ) (t : Target)
-    → heard (sent bs mark) (in_state Idle t) ≡ in_state Idle t
+    → target_after (sent bs mark) (in_state Idle t) ≡ in_state Idle t
 idle_hears [] mark t = refl
 idle_hears (b ∷ bs) mark t =
     ⊎_elim (λ e. rw e) (λ e. rw e (idle_hears bs (mark - 1) t)) (cases_Bool (eqb mark 1))
 
 -- a target whose own address is sent
 own_hears : (t : Target) (a raw : ℕ) (ws : List ℕ) → t.address ≡ a
-    → heard (sent (put_bytes a raw ws) 0) (in_state Listening t) ≡ ready a (raw + length ws)
+    → target_after (sent (put_bytes a raw ws) 0) (in_state Listening t) ≡ ready a (raw + length ws)
 own_hears t a raw ws e = let rest = words_heard ws a raw in grind (arith, nat_tests)
 
 -- a target that another address is sent to
 other_hears : (t : Target) (a raw : ℕ) (ws : List ℕ) → a < 128 → t.address < 128 → t.address ≢ a
-    → heard (sent (put_bytes a raw ws) 0) (in_state Listening t) ≡ in_state Idle t
+    → target_after (sent (put_bytes a raw ws) 0) (in_state Listening t) ≡ in_state Idle t
 other_hears t a raw ws ha ht ne =
     let no_write : write_byte a ≢ write_byte t.address = λ same. ne (omega arith) in
     let no_read : write_byte a ≢ read_byte t.address = λ same. omega arith in
@@ -76,30 +76,35 @@ module _ (a raw : ℕ) (ws : List ℕ) where
   bytes = sent (put_bytes a raw ws) 0
 
   put_begins : (mark : ℕ) → good mark (2 + 2 * length ws) ≡ true
-      → put_frame a raw ws mark ≡ asking this_put ++ (Stop ∷ [])
+      → put_frame a raw ws mark ≡ request_events this_put ++ (Stop ∷ [])
   put_begins mark g =
       let same = sent_good (put_bytes a raw ws) mark (rw (length-put_bytes a raw ws) g) in
       ap (λ es. Start ∷ (es ++ (Stop ∷ []))) (same ∙ sym (append-nil bytes))
 
-  put_hears : (t : Target) → heard (asking this_put) t ≡ heard bytes (in_state Listening t)
-  put_hears t = ap (λ es. heard es (in_state Listening t)) (append-nil bytes)
+  put_hears : (t : Target) → target_after (request_events this_put) t ≡ target_after bytes (in_state Listening t)
+  put_hears t = ap (λ es. target_after es (in_state Listening t)) (append-nil bytes)
 
-  put_catches : (t : Target) → caught (asking this_put) t ≡ caught bytes (in_state Listening t)
+  put_catches : (t : Target) → caught (request_events this_put) t ≡ caught bytes (in_state Listening t)
   put_catches t = ap (λ es. caught es (in_state Listening t)) (append-nil bytes)
 
-  put_taken : IsSendable this_put → (t : Target) → t.address ≡ a
-      → taken_out (asking this_put) t ≡ Some this_put
-  put_taken s t e =
+  put_stores : IsSendable this_put → (t : Target) → t.address ≡ a
+      → caught (request_events this_put) t ≡ rising raw ws
+  put_stores s t e =
       let own = ap (λ b. caught (sent (put_bytes b raw ws) 0) (in_state Listening t)) (sym e) in
       let stored = put_catches t ∙ own ∙ own_catches t raw 0 ws s.end in
       let all = take_all (length ws) ws (omega arith) in
+      rw all at stored
+
+  put_taken : IsSendable this_put → (t : Target) → t.address ≡ a
+      → taken_out (request_events this_put) t ≡ Some this_put
+  put_taken s t e =
       let some : ws ≢ [] = λ none. let no : false ≡ true = s.words.1 none in cc in
       ap₂ (λ now stores. taken_in now.state now stores)
-      (put_hears t ∙ own_hears t a raw ws e) (rw all at stored)
+      (put_hears t ∙ own_hears t a raw ws e) (put_stores s t e)
       ∙ taken_ready a (raw + length ws) raw ws some
 
   put_others : IsSendable this_put → (t : Target) → t.address < 128 → t.address ≢ a
-      → (caught (asking this_put) t ≡ []) × (heard (asking this_put) t ≡ in_state Idle t)
+      → (caught (request_events this_put) t ≡ []) × (target_after (request_events this_put) t ≡ in_state Idle t)
   put_others s t ht ne = (
     put_catches t ∙ other_catches t a raw 0 ws s.address ht ne,
     put_hears t ∙ other_hears t a raw ws s.address ht ne,
@@ -110,6 +115,7 @@ module _ (a raw : ℕ) (ws : List ℕ) where
   put_arrives mark g = record {
     begins = (Stop ∷ [], put_begins mark g);
     taken = put_taken;
+    stores = put_stores;
     gives = λ s t e reads. let no : false ≡ true = reads in cc;
     others = put_others;
   }
@@ -120,25 +126,30 @@ module _ (a raw : ℕ) where
 
   get_begins : (w mark : ℕ) → good mark 3 ≡ true
       → get_frame a raw w mark
-      ≡ asking this_get ++ (Byte (w / 256) true ∷ Byte (w % 256) false ∷ Stop ∷ [])
+      ≡ request_events this_get ++ (Byte (w / 256) true ∷ Byte (w % 256) false ∷ Stop ∷ [])
   get_begins w mark g = grind (arith, nat_tests)
 
   get_taken : IsSendable this_get → (t : Target) → t.address ≡ a
-      → taken_out (asking this_get) t ≡ Some this_get
+      → taken_out (request_events this_get) t ≡ Some this_get
   get_taken s t e = grind (arith, nat_tests)
 
+  get_stores : IsSendable this_get → (t : Target) → t.address ≡ a
+      → caught (request_events this_get) t ≡ rising raw []
+  get_stores s t e = grind (arith, nat_tests)
+
   get_gives : IsSendable this_get → (t : Target) → t.address ≡ a
-      → heard (asking this_get) t ≡ record { address = a; state = Giving; pointer = raw }
+      → target_after (request_events this_get) t ≡ record { address = a; state = Giving; pointer = raw }
   get_gives s t e = grind (arith, nat_tests)
 
   get_others : IsSendable this_get → (t : Target) → t.address < 128 → t.address ≢ a
-      → (caught (asking this_get) t ≡ []) × (heard (asking this_get) t ≡ in_state Idle t)
+      → (caught (request_events this_get) t ≡ []) × (target_after (request_events this_get) t ≡ in_state Idle t)
   get_others s t ht ne = (grind (arith, nat_tests), grind (arith, nat_tests))
 
   get_arrives : (w mark : ℕ) → good mark 3 ≡ true → Arrives this_get (get_frame a raw w mark)
   get_arrives w mark g = record {
     begins = (_, get_begins w mark g);
     taken = get_taken;
+    stores = get_stores;
     gives = λ s t e reads. get_gives s t e;
     others = get_others;
   }

@@ -7,10 +7,11 @@ use Rattle.i2c_target.specs.declared.target.State.{State}
 use Rattle.i2c_target.specs.declared.target.State.TheVariants.{Idle, Ready, Giving}
 use Rattle.i2c_target.specs.declared.target.Target.{Target}
 use Rattle.i2c_target.specs.Targets.{read_byte, in_state, moved}
+use Rattle.chip.specs.Words.{rising}
 use Rattle.wire.specs.Frames.{sent, put_bytes, caught}
 
--- what the controller's end puts in: to which address, whether it reads, at which raw address,
--- and the words that it writes
+-- What is put in at the controller's end: to which address, whether it reads, at which raw address,
+-- and the words that it writes.
 pub record Request : Type 0 where
   pub address : ℕ
   pub reads : Bool
@@ -33,15 +34,15 @@ pub record IsSendable (q : Request) : Type 0 where
 
 -- the events of a good transfer up to the last byte that the controller sends: all bytes of a put,
 -- and where it reads a repeated start and the address to read from
-abbrev pub asking : Request → List Event
-asking q =
+abbrev pub request_events : Request → List Event
+request_events q =
     Start ∷ (sent (put_bytes q.address q.raw q.words) 0
     ++ (if q.reads then Start ∷ sent (read_byte q.address ∷ []) 0 else []))
 
 -- what a target has become when events have passed
-abbrev pub heard : List Event → Target → Target
-heard [] t = t
-heard (e ∷ es) t = heard es (moved e t)
+abbrev pub target_after : List Event → Target → Target
+target_after [] t = t
+target_after (e ∷ es) t = target_after es (moved e t)
 
 -- by the state that the target is in
 abbrev pub taken_in : State → Target → List (ℕ × ℕ) → Option Request
@@ -52,18 +53,25 @@ taken_in _ t stored = None
 -- What a target has taken out of events, by what they made it store and become: it is to give the
 -- word that it points at, or has stored words and is ready for more. Else it took nothing out.
 abbrev pub taken_out : List Event → Target → Option Request
-taken_out es t = let now = heard es t in taken_in now.state now (caught es t)
+taken_out es t = let now = target_after es t in taken_in now.state now (caught es t)
 
--- A request arrives: what the controller's end put in, the chip's end takes out, whatever state a
+-- A request arrives: the chip's end takes out what was put in at the other end, whatever state a
 -- target was in.
 pub record Arrives (q : Request) (es : List Event) : Type 0 where
-  -- these events begin with those that ask for the request
-  pub begins : (rest : List Event) × (es ≡ asking q ++ rest)
+  -- the frame begins with the events that ask for the request
+  pub begins : (rest : List Event) × (es ≡ request_events q ++ rest)
   -- from those the target that has the address takes out the request
-  pub taken : IsSendable q → (t : Target) → t.address ≡ q.address → taken_out (asking q) t ≡ Some q
-  -- and where it reads, that target is about to give the word at the raw address
+  pub taken : IsSendable q → (t : Target) → t.address ≡ q.address
+      → taken_out (request_events q) t ≡ Some q
+  -- It stores the words that are written, each one raw address above the one before it, and nothing
+  -- where the request reads;
+  pub stores : IsSendable q → (t : Target) → t.address ≡ q.address
+      → caught (request_events q) t ≡ rising q.raw q.words
+  -- and then it is Giving, and points at the raw address.
   pub gives : IsSendable q → (t : Target) → t.address ≡ q.address → IsTrue q.reads
-      → heard (asking q) t ≡ record { address = q.address; state = Giving; pointer = q.raw }
-  -- every other target stores nothing and takes no part
+      → target_after (request_events q) t
+      ≡ record { address = q.address; state = Giving; pointer = q.raw }
+  -- every other target stores nothing and is Idle
   pub others : IsSendable q → (t : Target) → t.address < 128 → t.address ≢ q.address
-      → (caught (asking q) t ≡ []) × (heard (asking q) t ≡ in_state Idle t)
+      → (caught (request_events q) t ≡ [])
+      × (target_after (request_events q) t ≡ in_state Idle t)

@@ -28,12 +28,14 @@ Awaits mark m = (m.supply ≡ true) × (first_mark m.line.marks ≡ mark)
 abbrev pub GetUnder : ℕ → Reply → Type 0
 GetUnder mark r = (m : I2cModel) → Awaits mark m → (bus.get m 5).0 ≡ r
 
--- under this mark a put of any three words from raw address 5 on gets this reply, and stores its first k words
+-- under this mark a put of any three words from raw address 5 on gets this reply, and stores its
+-- first k words
 abbrev pub PutOfThree : ℕ → Reply → ℕ → Type 0
 PutOfThree mark r k =
     (m : I2cModel) (u v w : ℕ) → Awaits mark m
     → let put = bus.put m 5 (u ∷ v ∷ w ∷ []) in
-    (put.0 ≡ r) × ((i2c_chip put.1).words ≡ all_stored m.wire.words (rising 5 (take k (u ∷ v ∷ w ∷ []))))
+    (put.0 ≡ r)
+    × ((i2c_chip put.1).words ≡ all_stored m.wire.words (rising 5 (take k (u ∷ v ∷ w ∷ []))))
 
 -- a register lies on this page, at this raw address
 abbrev pub LiesAt : ℕ → ℕ → ℕ → Type 0
@@ -56,8 +58,9 @@ set_to n w m = step.update m n (setting_to w)
 abbrev pub LeavesOwed : Reply × Piled → ℕ → ℕ → Type 0
 LeavesOwed q settings runs = (q.0 ≡ accepted []) × (tallied q.1.owed ≡ (settings, runs))
 
--- Register 1 is set to 7, the supply goes, and 2 is set to 9: two settings are owed, in one run. Then 2 is set to 0, its reset word, and one is
--- owed. The line decides on the first reply alone: what comes with the supply off is accepted.
+-- Register 1 is set to 7, the supply goes, and 2 is set to 9: two settings are owed, in one run. Then
+-- 2 is set to 0, its reset word, and one is owed. The line decides on the first reply alone: what
+-- comes with the supply off is accepted.
 abbrev pub OwedOverADown : Type 0
 OwedOverADown =
     (a : ℕ) (marks : List ℕ) (tr : Traced) → (set_to 1 7 (piled a marks tr)).0 ≡ accepted []
