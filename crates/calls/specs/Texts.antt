@@ -2,8 +2,10 @@
 use Rattle.std.specs.Prelude.{ℕ, ◌+◌, ◌/◌, ◌%◌, cond, List, [], ◌∷◌, ◌++◌, codes, decimal, nat_lt}
 use Rattle.std.specs.List.{flat_map}
 use Rattle.calls.specs.Asked.{Asked, get, put, measure, down, up}
+use Rattle.calls.specs.declared.PileCall.{PileCall}
+use Rattle.calls.specs.declared.PileCall.TheVariants.{Port, Suspend, Resume}
 use Rattle.calls.specs.declared.PortCall.{PortCall}
-use Rattle.calls.specs.declared.PortCall.TheVariants.{Read, Update, Measure, Down, Up}
+use Rattle.calls.specs.declared.PortCall.TheVariants.{Read, Update, Sync, Measure, Down, Up}
 
 -- a hexadecimal digit, with letters in upper case
 abbrev pub hex_digit : ℕ → ℕ
@@ -31,6 +33,12 @@ call_text up = codes "up"
 abbrev pub port_call_text : PortCall → List ℕ
 port_call_text (Read register) = codes "read " ++ decimal register
 port_call_text (Update register mask bits) = codes "update " ++ (decimal register ++ (codes " " ++ (word_text mask ++ (codes " " ++ word_text bits))))
+port_call_text Sync = codes "sync"
 port_call_text (Measure register w) = codes "measure " ++ (decimal register ++ (codes " " ++ word_text w))
 port_call_text Down = codes "down"
 port_call_text Up = codes "up"
+
+abbrev pub pile_call_text : PileCall → List ℕ
+pile_call_text (Port call) = port_call_text call
+pile_call_text Suspend = codes "suspend"
+pile_call_text Resume = codes "resume"

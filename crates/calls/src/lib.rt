@@ -4,7 +4,7 @@
 ghost use Rattle.std.specs.Prelude.{ℕ, List, ◌≡◌, Some};
 ghost use Rattle.std.proofs.Common.{refl};
 ghost use Rattle.calls.specs.Asked.{asked};
-ghost use Rattle.calls.specs.Texts.{word_text, call_text, port_call_text};
+ghost use Rattle.calls.specs.Texts.{word_text, call_text, port_call_text, pile_call_text};
 
 use std::fmt;
 
@@ -30,9 +30,26 @@ pub enum Call {
 pub enum PortCall {
     Read { register: u16 },
     Update { register: u16, mask: u16, bits: u16 },
+    Sync,
     Measure { register: u16, word: u16 },
     Down,
     Up,
+}
+
+/// A call on a pile, as a sheet asks for it: one of those of its port, or the beginning or the end
+/// of a rest (docs/RULES.md, sections 11 and 18).
+#[derive(Clone, Copy, Debug, PartialEq, Eq)]
+pub enum PileCall {
+    Port(PortCall),
+    Suspend,
+    Resume,
+}
+
+/// A layer of a pile: a port that stands on another port (docs/RULES.md, sections 15 and 16).
+#[derive(Clone, Copy, Debug, PartialEq, Eq)]
+pub enum Layer {
+    Keeper,
+    Deferral,
 }
 
 // A register's word, which prints as `0x` and four digits.
@@ -98,6 +115,7 @@ impl fmt::Display for PortCall {
                 let bits = Word(bits);
                 write!(f, "update {register} {mask} {bits}")
             }
+            PortCall::Sync => write!(f, "sync"),
             PortCall::Measure { register, word } => {
                 let word = Word(word);
                 write!(f, "measure {register} {word}")
@@ -110,6 +128,25 @@ impl fmt::Display for PortCall {
 
 impl Prints for PortCall {
     ghost text = { port_call_text };
+
+    ghost prints = { λ c. refl };
+}
+
+// As a sheet writes it.
+impl fmt::Display for PileCall {
+    ghost output = { λ c. Some (pile_call_text c) };
+
+    fn fmt<W: fmt::Write>(&self, f: &mut fmt::Formatter<W>) -> fmt::Result {
+        match *self {
+            PileCall::Port(call) => write!(f, "{call}"),
+            PileCall::Suspend => write!(f, "suspend"),
+            PileCall::Resume => write!(f, "resume"),
+        }
+    }
+}
+
+impl Prints for PileCall {
+    ghost text = { pile_call_text };
 
     ghost prints = { λ c. refl };
 }

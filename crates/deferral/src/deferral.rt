@@ -8,12 +8,13 @@ ghost use Rattle.chart.specs.Patch.{complete};
 ghost use Rattle.chart.specs.declared.patch.Patch.{Patch};
 ghost use Rattle.layers.specs.Layers.{FaultIsOwed};
 ghost use Rattle.entries.specs.Entries.{first_burst, words_of, takes, found};
-ghost use Rattle.deferring.specs.Machine.{DeferralModel, DeferralSound, DeferralNew, new_deferral, passed, burst_sent, entries_sent, place_made, live_read, setting_read, deferral_steps, shown_under};
+ghost use Rattle.deferring.specs.Machine.{DeferralModel, DeferralSound, DeferralNew, new_deferral, passed, burst_sent, entries_sent, place_made, live_read, all_synced, setting_read, deferral_steps, shown_under};
 ghost use Rattle.deferring.specs.Laws.{DeferralLaws};
 ghost use Rattle.deferral.specs.Made.{deferral_model};
 ghost use Rattle.deferring.proofs.DeferralMeaning.{deferral_meaning};
 
 use arrayvec::ArrayVec;
+use bus::checks::check_awake;
 use chart::class::{Chart, Class};
 use chart::patch::Patch;
 use chart::refusal::{Fault, Refusal};
@@ -128,6 +129,17 @@ impl<P: Port> Deferral<P> {
         self.send_entries()?;
         self.below.read(register)
     }
+
+    /// A sync goes below once nothing waits. If what waits was refused, it ends with that refusal,
+    /// and nothing more goes below.
+    fn sync_all(&mut self) -> Result<(), Refusal<Fault>>
+        ensures { let step = P.Port.steps P.Chart.Chart.classed P.Chart.Chart.resets in
+            (port_reply no_value result, deferral_model P.Port.model self.new)
+            ≡ all_synced step (deferral_model P.Port.model self.old) }
+    {
+        self.send_entries()?;
+        self.below.sync()
+    }
 }
 
 impl<P: Port> Port for Deferral<P> {
@@ -186,6 +198,12 @@ impl<P: Port> Port for Deferral<P> {
 
     fn run(&mut self, first: u16, words: &[u16]) -> Result<(), Refusal<Fault>> {
         self.update_each(first, words)
+    }
+
+    /// All entries go below, and then a sync. It refuses by 5 with the supply off.
+    fn sync(&mut self) -> Result<(), Refusal<Fault>> {
+        check_awake(self.below.supply())?;
+        self.sync_all()
     }
 
     fn measure(&mut self, register: u16, word: u16) -> Result<(), Refusal<Fault>> {

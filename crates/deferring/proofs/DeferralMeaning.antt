@@ -14,16 +14,17 @@ use Rattle.bus.specs.Checks.{asleep}
 use Rattle.bus.proofs.Settled.{refused_by, either_way}
 use Rattle.port.specs.Checks.{read_check, update_check, run_check, is_accepted, onward}
 use Rattle.port.specs.Views.{View, view_of, Agree, replaced}
-use Rattle.port.specs.Meaning.{PortSteps, PortMeaning, PatchFits, Fine, Failed, SettingRead, LiveRead, Updated, Ran, NewView, Measured, WentDown, CameUp}
+use Rattle.port.specs.Meaning.{PortSteps, PortMeaning, PatchFits, Fine, Failed, SettingRead, LiveRead, AllInChip, Updated, Ran, NewView, Measured, WentDown, CameUp}
 use Rattle.port.proofs.Settled.{update_settled, run_settled}
 use Rattle.port.proofs.Replacing.{replaced_other}
 use Rattle.layers.proofs.Standing.{went_on, ended, restood, stood_still, stood_on}
+use Rattle.layers.proofs.SentFirst.{StandsOver, SentOrFailed, read_live, sync_all}
 use Rattle.layers.proofs.OneByOne.{run_by_updates, run_stays, kept_by_updates}
 use Rattle.entries.specs.Entries.{AreBursts, bursts, words_of, found, under, takes, entered}
 use Rattle.entries.specs.declared.entry.Entry.{Entry}
 use Rattle.entries.proofs.Cutting.{bursts_are}
 use Rattle.entries.proofs.Placing.{entered_is_table, entered_other, enters}
-use Rattle.deferring.specs.Machine.{DeferralModel, DeferralSound, DeferralNew, new_deferral, over, deferred, back, burst_back, passed, bursts_sent, patched, read_back, entries_sent, live_read, read_by, class_read, place_made, changed, deferral_steps, shown_under}
+use Rattle.deferring.specs.Machine.{DeferralModel, DeferralSound, DeferralNew, new_deferral, over, deferred, back, burst_back, passed, bursts_sent, patched, read_back, entries_sent, live_read, all_synced, read_by, class_read, place_made, changed, deferral_steps, shown_under}
 use Rattle.entries.proofs.Finding.{under_fits}
 use Rattle.deferring.proofs.Sending.{AllSent, all_sent}
 
@@ -240,46 +241,58 @@ module _ {class : ℕ → Class} {reset : ℕ → ℕ}
         (λ whole. ap (λ w. (accepted (w ∷ []), m)) (sym (ap (λ o. under o (shown m.below n)) is ∙ completes p whole (shown m.below n))))
         (λ _. ap (read_back m p) (port.kept_read m.below n s.below k c) ∙ ap (λ o. (accepted (under o (shown m.below n) ∷ []), m)) (sym is))
 
-  -- a live read below, once nothing waits
-  read_below : (m k : D) (n : ℕ) (p : Reply × M) → class n ≡ Live → Fine class (view m) (shown_under shown m) (view k) → k.entries ≡ [] → S k → Sound p.1
-      → LiveRead class (lower k.below) n p.0 (lower p.1) → LiveRead class (view m) n (back k p).0 (view (back k p).1) × S (back k p).1
-  read_below m k n p l (stood, same) none s sound (inl (ok, (more, shows), there)) = (
-    inl (
-      ok ∙ ap (λ w. accepted (w ∷ [])) (stood.live n l),
-      (stood_on 0 (view m) (view k) (view (over p.1 k)) stood (restood _ _ _ _ (chip k.below) (chip p.1) more), λ i c. ap (under (found i k.entries)) (shows i c) ∙ same i c),
-      λ i c. there i c ∙ ap (λ es. under (found i es) (shown p.1 i)) (sym none),
-    ),
-    stays_sound k p.1 s sound,
-  )
-  read_below m k n p l (stood, same) none s sound (inr (fault, more, shows)) = (
-    inr (fault, stood_on 1 (view m) (view k) (view (over p.1 k)) stood (restood _ _ _ _ (chip k.below) (chip p.1) more), λ i c. ap (under (found i k.entries)) (shows i c) ∙ same i c),
-    stays_sound k p.1 s sound,
-  )
+  abbrev none_waits : D → Type 0
+  none_waits m = m.entries ≡ []
 
-  read_sent : (m : D) (n : ℕ) (q : Reply × D) → class n ≡ Live → (chip m.below).supply ≡ true → AllSent keeps reset step shown chip Sound New port m q
-      → let r = onward q (λ k. back k (step.read k.below n)) in LiveRead class (view m) n r.0 (view r.1) × S r.1
-  read_sent m n q l on (inl (ok, fine, none, s)) =
-      rw (went_on q (λ k. back k (step.read k.below n)) [] ok)
-      (read_below m q.1 n (step.read q.1.below n) l fine none s (port.read_sound q.1.below n s.below) (port.live_read q.1.below n s.below l (rw (fine.0.supply ∙ on) refl)))
-  read_sent m n q l on (inr (failed, line, s)) =
-      rw (ended q (λ k. back k (step.read k.below n)) _ failed.0.5) (inr failed, s)
+  -- a call below leaves the entries that lie over it
+  stands_over :
+      StandsOver (λ k. k.below) over class shown chip Sound (shown_under shown) S none_waits
+  stands_over = record {
+    under = λ b k. refl;
+    sound_below = λ k s. s.below;
+    sound = λ b k s sound same supply. stays_sound k b s sound;
+    stands = λ b k same i c. ap (under (found i k.entries)) (same i c);
+    clear = λ b k s none same i c. ap (λ es. under (found i es) (shown b i)) (sym none);
+  }
 
-  read_live : (m : D) (n : ℕ) → S m → class n ≡ Live → (chip m.below).supply ≡ true → LiveRead class (view m) n (live_read step m n).0 (view (live_read step m n).1) × S (live_read step m n).1
-  read_live m n s l on = read_sent m n (entries_sent step m) l on (sent m s (search (rules, on)))
+  abbrev Sent : D → Reply × D → Type 0
+  Sent = SentOrFailed (λ k. k.below) over class shown chip Sound (shown_under shown) S none_waits
+
+  sent_or_failed : (m : D) (q : Reply × D)
+      → AllSent keeps reset step shown chip Sound New port m q → Sent m q
+  sent_or_failed m q (inl all) = inl all
+  sent_or_failed m q (inr (failed, line, s)) = inr (failed, s)
+
+  abbrev Leaves : D → List ℕ → Reply × D → Type 0
+  Leaves m values r = AllInChip class values (view m) r.0 (view r.1) × S r.1
+
+  module _ (m : D) (s : S m) (on : (chip m.below).supply ≡ true) where
+    sent_all : Sent m (entries_sent step m)
+    sent_all = sent_or_failed m (entries_sent step m) (sent m s (search (rules, on)))
+
+    reads_live : (n : ℕ) → class n ≡ Live → Leaves m ((view m).live n ∷ []) (live_read step m n)
+    reads_live =
+        read_live (λ k. k.below) over class shown chip Sound (shown_under shown) S none_waits
+        step New port stands_over (entries_sent step) m on sent_all
+
+    syncs_all : Leaves m [] (all_synced step m)
+    syncs_all =
+        sync_all (λ k. k.below) over class shown chip Sound (shown_under shown) S none_waits
+        step New port stands_over (entries_sent step) m on sent_all
 
   awake_if : (on : Bool) → asleep on ≡ None → on ≡ true
   awake_if on e = search rules
 
   class_sound : (m : D) (n : ℕ) (c : Class) → S m → class n ≡ c → read_check keeps c (chip m.below).supply ≡ None → S (class_read step m n c).1
   class_sound m n Setting s is e = reads_sound m n s is (found n m.entries)
-  class_sound m n Live s is e = (read_live m n s is (awake_if (chip m.below).supply e)).1
+  class_sound m n Live s is e = (reads_live m s (awake_if (chip m.below).supply e) n is).1
   class_sound m n Absent s is e = absurd (search (rules, e))
 
   read_sound : (m : D) (n : ℕ) → S m → S (steps.read m n).1
   read_sound m n s = either_way S (read_check keeps (class n) (chip m.below).supply) m (class_read step m n (class n)) s (class_sound m n (class n) s refl)
 
   is_live_read : (m : D) (n : ℕ) → S m → class n ≡ Live → read_check keeps Live (view m).supply ≡ None → LiveRead class (view m) n (steps.read m n).0 (view (steps.read m n).1)
-  is_live_read m n s l e = rw (l, e) (read_live m n s l (awake_if (chip m.below).supply e)).0
+  is_live_read m n s l e = rw (l, e) (reads_live m s (awake_if (chip m.below).supply e) n l).0
 
   is_setting_read : (m : D) (n : ℕ) → S m → class n ≡ Setting → read_check keeps Setting (view m).supply ≡ None → SettingRead class (view m) n (steps.read m n).0 (view (steps.read m n).1)
   is_setting_read m n s c e = rw (c, e) (reads m n s c (found n m.entries) refl (port.setting_read m.below n s.below c e))
@@ -366,6 +379,10 @@ module _ {class : ℕ → Class} {reset : ℕ → ℕ}
     ran = is_ran;
     kept_run = kept_run;
     run_sound = run_sound;
+    sync_refused = λ m r e. refused_by _ r m _ e;
+    synced = λ m s e. rw e (syncs_all m s (awake_if (chip m.below).supply e)).0;
+    sync_sound = λ m s. either_way S (asleep (chip m.below).supply) m (all_synced step m) s
+        (λ e. (syncs_all m s (awake_if (chip m.below).supply e)).1);
     measure_refused = λ m n w r e. ap (back m) (port.measure_refused m.below n w r e);
     measured = λ m n w s e. let d = port.measured m.below n w s.below e in (d.0, measured_view m n w (step.measure m.below n w) d.1);
     measure_sound = λ m n w s h. stays_sound m (step.measure m.below n w).1 s (port.measure_sound m.below n w s.below h);

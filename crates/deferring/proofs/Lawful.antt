@@ -1,23 +1,23 @@
 -- The machine of a deferral keeps to its rules, over any port. Assumes nothing.
 use Rattle.std.proofs.Common.{◌≡◌, ◌≢◌, ℕ, zero, suc, Bool, true, false, ◌||◌, cond, eqb, inl, inr}
-use Rattle.std.proofs.Common.{List, [], ◌∷◌, ◌++◌, length, drop, Some, None, Option, sym, refl, ap}
+use Rattle.std.proofs.Common.{List, [], ◌∷◌, length, drop, Some, None, Option, sym, refl, ap}
 use Rattle.std.proofs.Common.{subst, ◌∙◌, ⊎_elim, rules}
 use Rattle.std.specs.Option.{is_some}
 use Rattle.std.proofs.Math.Seq.{drop-append_seam}
-use Rattle.std.proofs.lemmas.List.{append-nil}
 use Rattle.std.proofs.lemmas.Bool.{cond_both, cond-true, cond-false, eq-eqb, ne_eqb, cases_Bool}
 use Rattle.chart.specs.Patch.{acted, complete}
 use Rattle.chart.specs.Replies.{Reply, accepted}
 use Rattle.chart.specs.declared.class.Class.{Class}
-use Rattle.chart.specs.declared.class.Class.TheVariants.{Setting, Live}
+use Rattle.chart.specs.declared.class.Class.TheVariants.{Setting}
 use Rattle.chart.specs.declared.patch.Patch.{Patch}
 use Rattle.chart.proofs.Masked.{completes}
 use Rattle.bus.specs.Chips.{Chip}
 use Rattle.port.specs.Checks.{read_check, update_check, is_accepted, onward}
 use Rattle.port.specs.Meaning.{PortSteps}
-use Rattle.port.specs.Pieces.{Taken, EndedAt}
+use Rattle.port.specs.Pieces.{Taken}
 use Rattle.layers.specs.Layers.{on_owed, SentInPieces}
-use Rattle.port.proofs.InPieces.{PieceBack, sent_in_pieces, in_order}
+use Rattle.layers.proofs.SentFirst.{part_follows, part_ends, is_sent_first}
+use Rattle.port.proofs.InPieces.{PieceBack, sent_in_pieces, all_taken, in_order}
 use Rattle.entries.specs.Entries.{entry_of, found, takes, HasEntry, FindsPlace, entered, Linked}
 use Rattle.entries.specs.Entries.{bursts, AreBursts, words_of}
 use Rattle.entries.specs.declared.entry.Entry.{Entry}
@@ -25,7 +25,7 @@ use Rattle.entries.proofs.Cutting.{bursts_are}
 use Rattle.entries.proofs.Finding.{has_found, found_has}
 use Rattle.entries.proofs.Placing.{takes_finds}
 use Rattle.deferring.specs.Machine.{DeferralModel, over, deferred, back, patched, read_back, passed}
-use Rattle.deferring.specs.Machine.{burst_back, burst_sent, entries_sent, read_by, live_read}
+use Rattle.deferring.specs.Machine.{burst_back, burst_sent, entries_sent, read_by}
 use Rattle.deferring.specs.Machine.{changed, deferral_steps}
 use Rattle.deferring.specs.Laws.{AreWordsOf, outcome, AtHand, DeferralLaws}
 use Rattle.deferring.proofs.Covering.{whole_mask}
@@ -52,14 +52,6 @@ none_left n k es has = has_found n es (go k es (found_has n (drop k es) has))
         cond_both (eqb e.register n) (Some e.patch) (found n es) (λ o. is_some o ≡ true)
         (λ _. refl)
         (λ _. go k es is)
-
--- a second part of a call that follows, and one that does not
-went_on : {K : Type 0} (q : Reply × K) (next : K → Reply × K) → q.0.number ≡ 0
-    → onward q next ≡ next q.1
-went_on q next ok = cond-true (is_accepted q.0) _ _ (eq-eqb q.0.number 0 ok)
-
-ended : {K : Type 0} (q : Reply × K) (next : K → Reply × K) → q.0.number ≢ 0 → onward q next ≡ q
-ended q next refuses = cond-false (is_accepted q.0) _ _ (ne_eqb q.0.number 0 refuses)
 
 -- What a sending leaves.
 module _ {M : Type 0} (step : PortSteps M) where
@@ -120,20 +112,13 @@ module _ {M : Type 0} (step : PortSteps M) where
       let others = subst (λ es. AreBursts es bs) left more in
       none_after bs (without burst s) t (call s b burst).1 c others taken.1
 
-  -- so none is where the sending was accepted
-  none_once : (gone left : List (List Entry)) (s t : List Entry) (b between c : M) (r : Reply)
-      → bursts s ≡ gone ++ left → Taken on_owed call without gone s b t between
-      → EndedAt on_owed call without left t between r c → r.number ≡ 0 → t ≡ []
-  none_once gone [] s t b between c r whole taken ended ok =
-      let all = subst (AreBursts s) (whole ∙ append-nil gone) (bursts_are s) in
-      none_after gone s t b between all taken
-  none_once gone (burst ∷ more) s t b between c r whole taken (refuses, as_owed, left) ok =
-      absurd (refuses (sym (ap (λ x. x.number) as_owed) ∙ ok))
-
   none_waits : (m : D) → (entries_sent step m).0.number ≡ 0 → (entries_sent step m).1.entries ≡ []
   none_waits m ok =
-      let is = in_bursts m in
-      none_once is.front is.rest m.entries _ m.below is.between _ _ is.whole is.taken is.ended ok
+      let bs = bursts m.entries in
+      let q = entries_sent step m in
+      none_after bs m.entries q.1.entries m.below q.1.below (bursts_are m.entries)
+      (all_taken on_owed (λ c. refl) call without bs m.entries q.1.entries m.below q.1.below q.0 ok
+      (in_bursts m))
 
   -- whatever is left was there before
   still_there : (n : ℕ) (bs : List (List Entry)) (s t : List Entry) (b c : M)
@@ -197,7 +182,7 @@ module _ {M : Type 0} (step : PortSteps M) (chip : M → Chip) (keeps : Bool)
     refused : ¬ FindsPlace n p m.entries → (sent m).0.number ≢ 0
         → (deferral.update m n p ≡ sent m) × ¬ HasEntry n (sent m).1.entries
     refused none refuses = (
-      sends_first none ∙ ended (sent m) entering refuses,
+      sends_first none ∙ part_ends (sent m) entering refuses,
       λ has. none (inr (inl (was_there step m n has))),
     )
 
@@ -206,7 +191,7 @@ module _ {M : Type 0} (step : PortSteps M) (chip : M → Chip) (keeps : Bool)
     alone none ok =
         let one = entered_alone n p (λ idles. none (inl idles)) in
         sends_first none
-        ∙ went_on (sent m) entering ok
+        ∙ part_follows (sent m) entering ok
         ∙ ap (λ es. outcome (accepted []) (sent m).1.below es)
         (ap (entered n p) (none_waits step m ok) ∙ one)
 
@@ -229,10 +214,6 @@ module _ {M : Type 0} (step : PortSteps M) (chip : M → Chip) (keeps : Bool)
     reads_part hand p is part =
         reads hand (Some p) is ∙ cond-false (complete p) _ _ (ne_eqb p.mask 65535 part)
 
-    reads_live : class n ≡ Live → (chip m.below).supply ≡ true
-        → deferral.read m n ≡ live_read step m n
-    reads_live is awake = rw (is, awake) refl
-
   -- a word that came back, or a refusal, under a patch
   module _ (m : DeferralModel M) (p : Patch) (q : Reply × M) where
     abbrev covering : DeferralModel M → Reply × DeferralModel M
@@ -241,10 +222,11 @@ module _ {M : Type 0} (step : PortSteps M) (chip : M → Chip) (keeps : Bool)
     word_covered : (w : ℕ) → q.0 ≡ accepted (w ∷ [])
         → (read_back m p q).0 ≡ accepted (acted p w ∷ [])
     word_covered w word =
-        ap (λ x. x.0) (went_on (back m q) covering (ap (λ r. r.number) word)) ∙ ap (patched p) word
+        ap (λ x. x.0) (part_follows (back m q) covering (ap (λ r. r.number) word))
+        ∙ ap (patched p) word
 
     refusal_passed : q.0.number ≢ 0 → (read_back m p q).0 ≡ q.0
-    refusal_passed refuses = ap (λ x. x.0) (ended (back m q) covering refuses)
+    refusal_passed refuses = ap (λ x. x.0) (part_ends (back m q) covering refuses)
 
     left_over : (read_back m p q).1 ≡ over q.1 m
     left_over = cond_both (is_accepted q.0) _ _ (λ (x : Reply × DeferralModel M). x.1 ≡ over q.1 m)
@@ -260,6 +242,7 @@ module _ {M : Type 0} (step : PortSteps M) (chip : M → Chip) (keeps : Bool)
         (words_of (e ∷ next ∷ es), are_words e (next ∷ es) whole linked, refl);
     sending = sent;
     in_bursts = in_bursts step;
+    none_waits = none_waits step;
     update_waits = waits;
     update_refused = refused;
     update_alone = alone;
@@ -273,13 +256,10 @@ module _ {M : Type 0} (step : PortSteps M) (chip : M → Chip) (keeps : Bool)
           ap (λ x. x.1.below) did ∙ ap (λ k. k.below) (left_over m p q),
           ap (λ x. x.1.entries) did ∙ ap (λ k. k.entries) (left_over m p q),
         );
-    live_refused = λ m n is awake refuses.
-        reads_live m n is awake ∙ ended (sent m) (λ k. back k (step.read k.below n)) refuses;
-    live_read = λ m n is awake ok.
-        let q = step.read (sent m).1.below n in
-        reads_live m n is awake
-        ∙ went_on (sent m) (λ k. back k (step.read k.below n)) ok
-        ∙ ap (λ es. outcome q.0 q.1 es) (none_waits step m ok);
+    live_read = λ m n is awake. rw (is, awake)
+        (is_sent_first sent (λ k. k.below) over (λ b. step.read b n) m);
+    sync = λ m awake. rw awake (is_sent_first sent (λ k. k.below) over step.sync m);
+    sync_asleep = λ m off. rw off refl;
     run = λ m first ws goes. rw goes (in_order deferral.update m first ws);
     measure = λ m n w. refl;
     up = λ m. refl;

@@ -2,7 +2,7 @@
 use Rattle.std.specs.Prelude.{◌≡◌, ◌≢◌, ℕ, Bool, true, false, ◌||◌, List, [], ◌∷◌, length, drop}
 use Rattle.std.specs.Prelude.{Some, None}
 use Rattle.chart.specs.Patch.{acted, Sets}
-use Rattle.chart.specs.Replies.{Reply, accepted}
+use Rattle.chart.specs.Replies.{Reply, accepted, refused}
 use Rattle.chart.specs.declared.class.Class.{Class}
 use Rattle.chart.specs.declared.class.Class.TheVariants.{Setting, Live}
 use Rattle.chart.specs.declared.patch.Patch.{Patch}
@@ -10,10 +10,10 @@ use Rattle.bus.specs.Chips.{Chip}
 use Rattle.port.specs.Checks.{run_check}
 use Rattle.port.specs.Meaning.{PortSteps}
 use Rattle.port.specs.OneByOne.{InOrder}
-use Rattle.layers.specs.Layers.{SentInPieces}
+use Rattle.layers.specs.Layers.{SentInPieces, SendsFirst}
 use Rattle.entries.specs.Entries.{entry_of, found, HasEntry, FindsPlace, entered, Linked, bursts}
 use Rattle.entries.specs.declared.entry.Entry.{Entry}
-use Rattle.deferring.specs.Machine.{DeferralModel}
+use Rattle.deferring.specs.Machine.{DeferralModel, over}
 
 -- one word for each entry: what it makes of any word
 abbrev pub AreWordsOf : List Entry → List ℕ → Type 0
@@ -49,6 +49,8 @@ module _ {M : Type 0} (step : PortSteps M) (chip : M → Chip) (keeps : Bool)
     pub in_bursts : (m : D)
         → SentInPieces (λ _. burst_call) (λ burst es. drop (length burst) es)
         (bursts m.entries) m.entries m.below (sending m).0 (sending m).1.entries (sending m).1.below
+    -- Once all are accepted none is left.
+    pub none_waits : (m : D) → (sending m).0.number ≡ 0 → (sending m).1.entries ≡ []
     -- An update that changes nothing, or whose register has an entry, or that finds fewer than 16
     -- entries, is accepted and waits from then on. The port below is as it was.
     pub update_waits : (m : D) (n : ℕ) (p : Patch) → AtHand m n → FindsPlace n p m.entries
@@ -79,14 +81,14 @@ module _ {M : Type 0} (step : PortSteps M) (chip : M → Chip) (keeps : Bool)
         × (q.0.number ≢ 0 → did.0 ≡ q.0)
         × (did.1.below ≡ q.1)
         × (did.1.entries ≡ m.entries)
-    -- A live register, with the supply on, has all entries sent first. If that is refused, the read
-    -- ends with that reply;
-    pub live_refused : (m : D) (n : ℕ) → class n ≡ Live → (chip m.below).supply ≡ true
-        → (sending m).0.number ≢ 0 → deferral.read m n ≡ sending m
-    -- if it is accepted, the read goes below. Its reply is as it came, and no entry waits.
+    -- With the supply on, all entries go ahead of a live read, and ahead of a sync.
     pub live_read : (m : D) (n : ℕ) → class n ≡ Live → (chip m.below).supply ≡ true
-        → (sending m).0.number ≡ 0
-        → let q = step.read (sending m).1.below n in deferral.read m n ≡ outcome q.0 q.1 []
+        → SendsFirst sending (λ k. k.below) over (λ b. step.read b n) m (deferral.read m n)
+    pub sync : (m : D) → (chip m.below).supply ≡ true
+        → SendsFirst sending (λ k. k.below) over step.sync m (deferral.sync m)
+    -- With the supply off a sync is refused, and nothing changes.
+    pub sync_asleep : (m : D) → (chip m.below).supply ≡ false
+        → deferral.sync m ≡ (refused 5 [], m)
     -- A run that is not refused before anything is sent is an update for each of its words, up to
     -- the first that is refused.
     pub run : (m : D) (first : ℕ) (ws : List ℕ)

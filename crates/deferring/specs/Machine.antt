@@ -6,11 +6,11 @@ use Rattle.chart.specs.declared.class.Class.{Class}
 use Rattle.chart.specs.declared.class.Class.TheVariants.{Setting}
 use Rattle.chart.specs.declared.patch.Patch.{Patch}
 use Rattle.bus.specs.Chips.{Chip}
-use Rattle.bus.specs.Checks.{unless}
+use Rattle.bus.specs.Checks.{asleep, unless}
 use Rattle.port.specs.Checks.{read_check, update_check, onward, in_turn}
 use Rattle.port.specs.Meaning.{PortSteps}
 use Rattle.port.specs.OneByOne.{each_updated}
-use Rattle.layers.specs.Layers.{on_owed}
+use Rattle.layers.specs.Layers.{on_owed, sent_first}
 use Rattle.entries.specs.Entries.{IsTable, found, under, takes, entered, bursts, words_of}
 use Rattle.entries.specs.declared.entry.Entry.{Entry}
 
@@ -72,9 +72,15 @@ module _ {M : Type 0} (step : PortSteps M) where
   abbrev pub changed : DeferralModel M → ℕ → Patch → Reply × DeferralModel M
   changed m n p = onward (place_made m n p) (λ k. (accepted [], deferred k n p))
 
-  -- a live register is read below once nothing waits
+  -- a call goes below once nothing waits
+  abbrev pub entries_first : (M → Reply × M) → DeferralModel M → Reply × DeferralModel M
+  entries_first = sent_first entries_sent (λ k. k.below) over
+
   abbrev pub live_read : DeferralModel M → ℕ → Reply × DeferralModel M
-  live_read m n = onward (entries_sent m) (λ k. back k (step.read k.below n))
+  live_read m n = entries_first (λ b. step.read b n) m
+
+  abbrev pub all_synced : DeferralModel M → Reply × DeferralModel M
+  all_synced = entries_first step.sync
 
   -- a setting by what waits for it: where its whole word does, the word below counts for nothing
   abbrev pub read_by : DeferralModel M → ℕ → Option Patch → Reply × DeferralModel M
@@ -105,6 +111,7 @@ module _ {M : Type 0} (step : PortSteps M) where
       read = λ m n. unless (read_check keeps (class n) (on m)) m (class_read m n (class n));
       update = updated;
       run = each_updated keeps class on updated;
+      sync = λ m. unless (asleep (on m)) m (all_synced m);
       measure = λ m n w. back m (step.measure m.below n w);
       down = down;
       up = λ m. over (step.up m.below) m;

@@ -1,13 +1,15 @@
-// Settings that outlive the supply, over any port: each is held here, and what the port below lost is owed to it until the next live read.
+// Settings that outlive the supply, over any port: each is held here, and what the port below lost is
+// owed to it until the next live read or sync.
 ghost use Rattle.std.specs.Prelude.{◌≡◌, ℕ, ◌+◌, ◌≤◌, false, take, drop, length, sum_by, true};
 ghost use Rattle.chart.specs.Replies.{port_reply, word_value, no_value};
 ghost use Rattle.layers.specs.Layers.{FaultIsOwed};
 ghost use Rattle.owed.specs.Runs.{marked, runs, AreRuns, tallied, which_reply, SomeOwed};
-ghost use Rattle.keeping.specs.Machine.{KeeperModel, KeeperSound, KeeperNew, new_keeper, held_at, holding, sent, run_sent, runs_sent, owed_sent, live_read, changed, keeper_steps};
+ghost use Rattle.keeping.specs.Machine.{KeeperModel, KeeperSound, KeeperNew, new_keeper, held_at, holding, sent, run_sent, runs_sent, owed_sent, live_read, all_synced, changed, keeper_steps};
 ghost use Rattle.keeping.specs.Laws.{KeeperLaws};
 ghost use Rattle.keeper.specs.Made.{keeper_model};
 ghost use Rattle.keeping.proofs.KeeperMeaning.{keeper_meaning};
 
+use bus::checks::check_awake;
 use chart::class::{Chart, Class};
 use chart::patch::Patch;
 use chart::refusal::{Fault, Refusal};
@@ -131,11 +133,10 @@ impl<P: Port> Keeper<P> {
         Ok(())
     }
 
-    // All that is owed goes below; accepted, nothing is owed any more.
+    // All that is owed goes below.
     fn send_owed(&mut self) -> Result<(), Refusal<Fault>>
         ensures value { (port_reply no_value result, keeper_model P.Port.model self.new) ≡ owed_sent (P.Port.steps P.Chart.Chart.classed P.Chart.Chart.resets) (keeper_model P.Port.model self.old) }
         ensures errand { FaultIsOwed (port_reply no_value result) }
-        ensures settles { KeeperSound P.Port.KEEPS P.Chart.Chart.classed P.Chart.Chart.resets P.Port.shown P.Port.chip P.Port.Sound (keeper_model P.Port.model self.old) → (P.Port.chip (P.Port.model self.old.below)).supply ≡ true → (port_reply no_value result).number ≡ 0 → (i : ℕ) → marked self.new.owed i ≡ false }
     {
         self.send_runs(self.owed)
     }
@@ -146,6 +147,17 @@ impl<P: Port> Keeper<P> {
     {
         self.send_owed()?;
         self.below.read(register)
+    }
+
+    /// A sync goes below once nothing is owed. If what is owed was refused, it ends with that
+    /// refusal, and nothing more goes below.
+    fn sync_all(&mut self) -> Result<(), Refusal<Fault>>
+        ensures { let step = P.Port.steps P.Chart.Chart.classed P.Chart.Chart.resets in
+            (port_reply no_value result, keeper_model P.Port.model self.new)
+            ≡ all_synced step (keeper_model P.Port.model self.old) }
+    {
+        self.send_owed()?;
+        self.below.sync()
     }
 }
 
@@ -204,6 +216,12 @@ impl<P: Port> Port for Keeper<P> {
 
     fn run(&mut self, first: u16, words: &[u16]) -> Result<(), Refusal<Fault>> {
         self.update_each(first, words)
+    }
+
+    /// What is owed goes below, and then a sync. It refuses by 5 with the supply off.
+    fn sync(&mut self) -> Result<(), Refusal<Fault>> {
+        check_awake(self.below.supply())?;
+        self.sync_all()
     }
 
     fn measure(&mut self, register: u16, word: u16) -> Result<(), Refusal<Fault>> {

@@ -1,5 +1,6 @@
 -- The words and marks of a keeper stay those of settings alone. Assumes nothing.
-use Rattle.std.proofs.Common.{◌≡◌, ℕ, ◌^◌, ◌<◌, ◌≤◌, ◌≢◌, Bool, true, false, not, eqb, List, get_or, set, replicate, sym, refl, ap, ◌∙◌, ⊎_elim, arith, rules}
+use Rattle.std.proofs.Common.{◌≡◌, ℕ, ◌+◌, ◌^◌, ◌<◌, ◌≤◌, ◌≢◌, Bool, true, false, not, eqb, inr, List}
+use Rattle.std.proofs.Common.{get_or, set, replicate, sym, refl, ap, ◌∙◌, ⊎_elim, arith, rules}
 use Rattle.std.proofs.lemmas.Bool.{cases_eq, cases_lt, eq-eqb, false≢true}
 use Rattle.std.proofs.lemmas.Grind.{elements}
 use Rattle.std.proofs.lemmas.List.{length-set, length-replicate, get_or-replicate, get_or_past, get_or-set_other, set_past}
@@ -8,8 +9,9 @@ use Rattle.chart.specs.Rules.{ChartRules}
 use Rattle.chart.specs.declared.class.Class.{Class}
 use Rattle.chart.specs.declared.class.Class.TheVariants.{Absent, Setting, Live}
 use Rattle.chip.specs.Words.{fresh}
-use Rattle.owed.specs.Runs.{marked, cleared, differing}
+use Rattle.owed.specs.Runs.{marked, cleared, differing, AreRuns}
 use Rattle.owed.specs.declared.runs.Run.{Run}
+use Rattle.owed.proofs.Running.{same_runs}
 use Rattle.owed.proofs.Marking.{marked_set_other, in_or_out, marked_cleared, marked_cleared_other, length_cleared, marked_differing, marked_differing_past, length_differing}
 use Rattle.keeping.specs.Machine.{Kept, registers}
 
@@ -20,6 +22,14 @@ none_marked n i = ⊎_elim (λ h. get_or-replicate n i false false h) (λ h. get
 -- clearing a run marks nothing
 pub cleared_none : (r : Run) (bs : List Bool) (i : ℕ) → marked bs i ≡ false → marked (cleared r bs) i ≡ false
 cleared_none r bs i e = ⊎_elim (marked_cleared r bs i) (λ out. marked_cleared_other r bs i out ∙ e) (in_or_out r i)
+
+-- the runs behind one that is cleared stay what they are
+pub runs_behind : (r : Run) (rs : List Run) (bs : List Bool)
+    → AreRuns (marked bs) (r.first + r.count) rs
+    → AreRuns (marked (cleared r bs)) (r.first + r.count) rs
+runs_behind r rs bs =
+    same_runs (marked bs) (marked (cleared r bs)) (r.first + r.count) rs
+    (λ i from. sym (marked_cleared_other r bs i (inr from)))
 
 module _ {count : ℕ} {class : ℕ → Class} {reset : ℕ → ℕ} (chart : ChartRules count class reset) where
   pub setting_low : (n : ℕ) → class n ≡ Setting → n < registers

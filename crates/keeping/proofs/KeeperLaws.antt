@@ -1,10 +1,10 @@
 -- The keeper's machine keeps to the keeper's rules, over any port. Assumes nothing.
-use Rattle.std.proofs.Common.{◌≡◌, ◌≢◌, ℕ, ◌+◌, ◌-◌, Bool, true, false, not, ◌&&◌, eqb, cond}
-use Rattle.std.proofs.Common.{◌⊎◌, ◌↔◌, List, [], take, drop, set, sym, refl, ap, ◌∙◌, subst}
+use Rattle.std.proofs.Common.{◌≡◌, ◌≢◌, ℕ, ◌+◌, ◌-◌, ◌<◌, Bool, true, false, not, ◌&&◌, eqb, cond}
+use Rattle.std.proofs.Common.{◌⊎◌, inl, ◌↔◌, List, [], ◌∷◌, take, drop, set, sym, refl, ap, ◌∙◌, subst}
 use Rattle.std.proofs.Common.{⊎_elim, arith, rules}
 use Rattle.std.specs.List.{slice_range}
 use Rattle.std.proofs.lemmas.Bool.{cond_both, eqb-true, eqb-false, eq-eqb, ne_eqb, both_ways}
-use Rattle.std.proofs.lemmas.Bool.{and_left, and_right}
+use Rattle.std.proofs.lemmas.Bool.{and_left, and_right, cases_lt}
 use Rattle.std.proofs.lemmas.List.{get_or-set_same, get_or-set_other}
 use Rattle.chart.specs.Patch.{acted, setting_to}
 use Rattle.chart.specs.Replies.{Reply, accepted}
@@ -14,17 +14,21 @@ use Rattle.chart.specs.declared.class.Class.TheVariants.{Setting}
 use Rattle.bus.specs.Chips.{Chip}
 use Rattle.port.specs.Checks.{is_accepted}
 use Rattle.port.specs.Meaning.{PortSteps}
-use Rattle.layers.specs.Layers.{on_owed}
-use Rattle.port.proofs.InPieces.{PieceBack, sent_in_pieces, in_order}
-use Rattle.owed.specs.Runs.{marked, runs, differing}
+use Rattle.port.specs.Pieces.{Taken}
+use Rattle.layers.specs.Layers.{on_owed, SentInPieces}
+use Rattle.layers.proofs.SentFirst.{is_sent_first}
+use Rattle.port.proofs.InPieces.{PieceBack, sent_in_pieces, all_taken, in_order}
+use Rattle.owed.specs.Runs.{marked, runs, differing, AreRuns}
 use Rattle.owed.specs.declared.runs.Run.{Run}
+use Rattle.owed.proofs.Running.{runs_are}
 use Rattle.owed.proofs.Marking.{marked_set, marked_set_other, marked_differing}
+use Rattle.owed.proofs.Marking.{marked_cleared, marked_cleared_other}
 use Rattle.keeping.specs.Machine.{KeeperModel, Kept, held_at, owed_at, over, back, holding}
-use Rattle.keeping.specs.Machine.{set_back, run_back, run_sent, words_of, owed_sent, live_read}
+use Rattle.keeping.specs.Machine.{set_back, run_back, run_sent, words_of, owed_sent}
 use Rattle.keeping.specs.Machine.{keeper_steps}
-use Rattle.keeping.specs.Laws.{own, without_run, run_below, NowHolds, HoldsAlone, SendsSetting}
-use Rattle.keeping.specs.Laws.{ReadsLive, KeeperLaws}
-use Rattle.keeping.proofs.Holding.{setting_low, kept_differing}
+use Rattle.keeping.specs.Laws.{Own, own, without_run, run_below, NowHolds, HoldsAlone, SendsSetting}
+use Rattle.keeping.specs.Laws.{KeeperLaws}
+use Rattle.keeping.proofs.Holding.{setting_low, kept_differing, runs_behind}
 
 -- the words at a run's numbers
 run_words : (ws : List ℕ) (first n : ℕ) → slice_range ws first (first + n) ≡ take n (drop first ws)
@@ -62,26 +66,41 @@ module _ {M : Type 0} (step : PortSteps M) where
       (came_back m r (called (words_of m r))) in
       record { told = left.0; under = left.1; kept = left.2 }
 
-  is_live_read : (m : K) (n : ℕ) → ReadsLive step n m (live_read step m n)
-  is_live_read m n =
+  in_runs : (m : K)
+      → let q = owed_sent step m in
+      SentInPieces (run_below step) without_run (runs m.owed)
+      (own m) m.below q.0 (own q.1) q.1.below
+  in_runs m =
+      sent_in_pieces on_owed (λ c. refl) (run_below step) without_run (λ (k : K). k.below) own
+      (run_sent step) piece (runs m.owed) m
+
+  -- Once all runs from a number on were accepted nothing is owed, where nothing was before it.
+  none_after : (rs : List Run) (n : ℕ) (s t : Own) (b c : M)
+      → ((i : ℕ) → i < n → marked s.owed i ≡ false) → AreRuns (marked s.owed) n rs
+      → Taken on_owed (run_below step) without_run rs s b t c
+      → (i : ℕ) → marked t.owed i ≡ false
+  none_after [] n s t b c before are taken =
+      λ i. ap (λ (o : Own). marked o.owed i) taken.0 ∙ ⊎_elim (before i) (are i) (cases_lt i n)
+  none_after (r ∷ rs) n s t b c before (next, others) taken =
+      let end = r.first + r.count in
+      let outside = marked_cleared_other r s.owed in
+      none_after rs end (without_run r s) t (run_below step s b r).1 c
+      (λ i low. ⊎_elim
+      (λ early. outside i (inl early) ∙ ⊎_elim (before i) (λ from. next.before i from early)
+      (cases_lt i n))
+      (λ from. marked_cleared r s.owed i (from, low))
+      (cases_lt i r.first))
+      (runs_behind r rs s.owed others) taken.1
+
+  pub none_owed : (m : K) → (owed_sent step m).0.number ≡ 0
+      → (i : ℕ) → owed_at (owed_sent step m).1 i ≡ false
+  none_owed m ok =
+      let rs = runs m.owed in
       let q = owed_sent step m in
-      let sent = sent_in_pieces on_owed (λ c. refl) (run_below step) without_run
-      (λ (k : K). k.below) own (run_sent step) piece (runs m.owed) m in
-      cond_both (is_accepted q.0) (back q.1 (step.read q.1.below n)) q (ReadsLive step n m)
-      (λ ok. record {
-        answer = q.0;
-        between = q.1;
-        sent = sent;
-        if_refused = λ away. absurd (away (eqb-true _ _ ok));
-        if_accepted = λ _. (record { reply = refl; below = refl }, refl);
-      })
-      (λ away. record {
-        answer = q.0;
-        between = q.1;
-        sent = sent;
-        if_refused = λ _. refl;
-        if_accepted = λ ok. absurd (eqb-false _ _ away ok);
-      })
+      none_after rs 0 (own m) (own q.1) m.below q.1.below (λ i low. absurd (omega (arith, low)))
+      (runs_are m.owed)
+      (all_taken on_owed (λ c. refl) (run_below step) without_run rs (own m) (own q.1) m.below
+      q.1.below q.0 ok (in_runs m))
 
 module _ {count : ℕ} {class : ℕ → Class} {reset : ℕ → ℕ} (chart : ChartRules count class reset)
     {M : Type 0} (keeps : Bool) (step : PortSteps M) (chip : M → Chip) where
@@ -153,7 +172,13 @@ module _ {count : ℕ} {class : ℕ → Class} {reset : ℕ → ℕ} (chart : Ch
         rw (c, goes, not_there m n w other) (sends m n w k c);
     run = λ m first ws goes.
         rw goes (in_order (keeper_steps step chip keeps class reset).update m first ws);
-    live_read = λ m n c awake. rw (c, awake) (is_live_read step m n);
+    sending = owed_sent step;
+    in_runs = in_runs step;
+    none_owed = none_owed step;
+    live_read = λ m n c awake. rw (c, awake)
+        (is_sent_first (owed_sent step) (λ k. k.below) over (λ b. step.read b n) m);
+    sync = λ m awake. rw awake (is_sent_first (owed_sent step) (λ k. k.below) over step.sync m);
+    sync_asleep = λ m off. rw off refl;
     measure = λ m n w. (record { reply = refl; below = refl }, refl);
     up = λ m. (refl, refl);
     down = λ m. (refl, refl);

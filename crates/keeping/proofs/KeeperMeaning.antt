@@ -14,19 +14,21 @@ use Rattle.chip.specs.Words.{Fit}
 use Rattle.bus.specs.Chips.{Chip}
 use Rattle.bus.specs.Checks.{measure_check, asleep}
 use Rattle.bus.proofs.Settled.{refused_by, either_way}
-use Rattle.port.specs.Checks.{read_check, update_check, run_check, onward}
+use Rattle.port.specs.Checks.{read_check, update_check, run_check}
 use Rattle.port.specs.Views.{View, view_of, Agree, replaced}
-use Rattle.port.specs.Meaning.{PortSteps, PortMeaning, PatchFits, Stood, Fine, Failed, SettingRead, LiveRead, Updated, Ran, NewView, Measured, WentDown, CameUp}
+use Rattle.port.specs.Meaning.{PortSteps, PortMeaning, PatchFits, Fine, Failed, SettingRead, LiveRead, AllInChip, Updated, Ran, NewView, Measured, WentDown, CameUp}
 use Rattle.port.proofs.Settled.{update_settled, run_settled}
 use Rattle.port.proofs.Replacing.{set_replaces, replaced_same, replaced_other}
 use Rattle.port.specs.OneByOne.{one_by_one}
-use Rattle.layers.proofs.Standing.{went_on, ended, restood, stood_still, stood_on}
+use Rattle.layers.proofs.Standing.{went_on, ended, restood, stood_still}
+use Rattle.layers.proofs.SentFirst.{StandsOver, SentOrFailed, read_live, sync_all}
 use Rattle.layers.proofs.OneByOne.{set_fits, run_by_updates, run_stays, kept_by_updates}
 use Rattle.owed.specs.Runs.{marked, differing}
-use Rattle.keeping.specs.Machine.{KeeperModel, KeeperSound, KeeperNew, registers, held_at, owed_at, over, back, holding, set_back, sent, owed_sent, live_read, class_read, changed, keeper_steps, new_keeper}
+use Rattle.keeping.specs.Machine.{KeeperModel, KeeperSound, KeeperNew, registers, held_at, owed_at, over, back, holding, set_back, sent, owed_sent, live_read, all_synced, class_read, changed, keeper_steps, new_keeper}
 use Rattle.owed.proofs.Marking.{marked_set, marked_set_other, marked_differing}
 use Rattle.keeping.proofs.Holding.{setting_low, none_marked, fresh_at, kept_new, kept_set, kept_differing}
 use Rattle.keeping.proofs.Sending.{beneath, AllSent, all_sent}
+use Rattle.keeping.proofs.KeeperLaws.{none_owed}
 
 module _ {count : ℕ} {class : ℕ → Class} {reset : ℕ → ℕ} (chart : ChartRules count class reset)
     {M : Type 0} (keeps : Bool) (step : PortSteps M) (shown : M → ℕ → ℕ) (chip : M → Chip) (Sound New : M → Type 0) (port : PortMeaning keeps class reset step (λ m. view_of (shown m) (chip m)) Sound New) where
@@ -177,56 +179,57 @@ module _ {count : ℕ} {class : ℕ → Class} {reset : ℕ → ℕ} (chart : Ch
   kept_update : (m : K) (n : ℕ) (p : Patch) → S m → true ≡ true → (view m).supply ≡ false → class n ≡ Setting → (steps.update m n p).0 ≡ accepted []
   kept_update m n p s keeps_it off c = rw c (asleep_accepted m n (acted p (held_at m n)) s c off)
 
-  -- a live read below, once nothing is owed
-  read_below : (m k : K) (n : ℕ) (p : Reply × M) → class n ≡ Live → Stood class 0 (view m) (view k) → k.held ≡ m.held → up_to_date k → S k → Sound p.1
-      → LiveRead class (lower k.below) n p.0 (lower p.1) → LiveRead class (view m) n (back k p).0 (view (back k p).1) × S (back k p).1
-  read_below m k n p l stood same none s sound (inl (ok, (more, shows), there)) = (
-    inl (
-      ok ∙ ap (λ w. accepted (w ∷ [])) (stood.live n l),
-      (stood_on 0 (view m) (view k) (view (over p.1 k)) stood (restood _ _ _ _ (chip k.below) (chip p.1) more), λ i c. ap (λ ws. get_or ws i 0) same),
-      λ i c. there i c ∙ shows i c ∙ s.equal i c (none i),
-    ),
-    stays_sound k p.1 s sound shows more.supply,
-  )
-  read_below m k n p l stood same none s sound (inr (fault, more, shows)) = (
-    inr (fault, stood_on 1 (view m) (view k) (view (over p.1 k)) stood (restood _ _ _ _ (chip k.below) (chip p.1) more), λ i c. ap (λ ws. get_or ws i 0) same),
-    stays_sound k p.1 s sound shows more.supply,
-  )
+  -- a call below leaves the words that are held
+  stands_over : StandsOver (λ k. k.below) over class shown chip Sound held_at S up_to_date
+  stands_over = record {
+    under = λ b k. refl;
+    sound_below = λ k s. s.below;
+    sound = λ b k s sound same supply. stays_sound k b s sound same supply;
+    stands = λ b k same i c. refl;
+    clear = λ b k s none same i c. same i c ∙ s.equal i c (none i);
+  }
 
-  settles : (q : Reply × K) (m k : K) (r : Reply) → AllSent chart keeps step shown chip Sound New port m q → (r, k) ≡ q → r.number ≡ 0 → up_to_date k
-  settles q m k r (inl (ok, stood, same, none, s)) is zero_is i = ap (λ x. owed_at x.1 i) is ∙ none i
-  settles q m k r (inr (fault, stood, same, s)) is zero_is i =
-      let six : r.number ≡ 6 = ap (λ x. x.0.number) is ∙ ap (λ x. x.number) fault.5 in
-      absurd (omega (arith, six, zero_is))
+  abbrev Sent : K → Reply × K → Type 0
+  Sent = SentOrFailed (λ k. k.below) over class shown chip Sound held_at S up_to_date
 
-  -- once all that is owed was accepted, nothing is
-  pub sent_settles : (m k : K) (r : Reply) → S m → (chip m.below).supply ≡ true → (r, k) ≡ owed_sent step m → r.number ≡ 0 → (i : ℕ) → owed_at k i ≡ false
-  sent_settles m k r s on = settles (owed_sent step m) m k r (all_sent chart keeps step shown chip Sound New port m s on)
+  sent_or_failed : (m : K) (q : Reply × K) → (q.0.number ≡ 0 → up_to_date q.1)
+      → AllSent chart keeps step shown chip Sound New port m q → Sent m q
+  sent_or_failed m q none (inl (ok, stood, same, s)) =
+      let zero = ap (λ r. r.number) ok in
+      inl (ok, (stood, λ i c. ap (λ ws. get_or ws i 0) same), none zero, s)
+  sent_or_failed m q none (inr (fault, stood, same, s)) =
+      inr ((fault, stood, λ i c. ap (λ ws. get_or ws i 0) same), s)
 
-  read_sent : (m : K) (n : ℕ) (q : Reply × K) → class n ≡ Live → (chip m.below).supply ≡ true → AllSent chart keeps step shown chip Sound New port m q
-      → let r = onward q (λ k. back k (step.read k.below n)) in LiveRead class (view m) n r.0 (view r.1) × S r.1
-  read_sent m n q l on (inl (ok, stood, same, none, s)) =
-      rw (went_on q (λ k. back k (step.read k.below n)) [] ok)
-      (read_below m q.1 n (step.read q.1.below n) l stood same none s (port.read_sound q.1.below n s.below) (port.live_read q.1.below n s.below l (rw (stood.supply ∙ on) refl)))
-  read_sent m n q l on (inr (fault, stood, same, s)) =
-      rw (ended q (λ k. back k (step.read k.below n)) _ fault.5) (inr (fault, stood, λ i c. ap (λ ws. get_or ws i 0) same), s)
+  abbrev Leaves : K → List ℕ → Reply × K → Type 0
+  Leaves m values r = AllInChip class values (view m) r.0 (view r.1) × S r.1
 
-  read_live : (m : K) (n : ℕ) → S m → class n ≡ Live → (chip m.below).supply ≡ true → LiveRead class (view m) n (live_read step m n).0 (view (live_read step m n).1) × S (live_read step m n).1
-  read_live m n s l on = read_sent m n (owed_sent step m) l on (all_sent chart keeps step shown chip Sound New port m s on)
+  module _ (m : K) (s : S m) (on : (chip m.below).supply ≡ true) where
+    sent_all : Sent m (owed_sent step m)
+    sent_all =
+        sent_or_failed m (owed_sent step m) (none_owed step m)
+        (all_sent chart keeps step shown chip Sound New port m s on)
+
+    reads_live : (n : ℕ) → class n ≡ Live → Leaves m ((view m).live n ∷ []) (live_read step m n)
+    reads_live = read_live (λ k. k.below) over class shown chip Sound held_at S up_to_date
+        step New port stands_over (owed_sent step) m on sent_all
+
+    syncs_all : Leaves m [] (all_synced step m)
+    syncs_all = sync_all (λ k. k.below) over class shown chip Sound held_at S up_to_date
+        step New port stands_over (owed_sent step) m on sent_all
 
   awake_if : (on : Bool) → asleep on ≡ None → on ≡ true
   awake_if on e = search rules
 
   class_sound : (m : K) (n : ℕ) (c : Class) → S m → class n ≡ c → read_check true c (chip m.below).supply ≡ None → S (class_read step m n c).1
   class_sound m n Setting s is e = s
-  class_sound m n Live s is e = (read_live m n s is (awake_if (chip m.below).supply e)).1
+  class_sound m n Live s is e = (reads_live m s (awake_if (chip m.below).supply e) n is).1
   class_sound m n Absent s is e = absurd (search (rules, e))
 
   read_sound : (m : K) (n : ℕ) → S m → S (steps.read m n).1
   read_sound m n s = either_way S (read_check true (class n) (chip m.below).supply) m (class_read step m n (class n)) s (class_sound m n (class n) s refl)
 
   is_live_read : (m : K) (n : ℕ) → S m → class n ≡ Live → read_check true Live (view m).supply ≡ None → LiveRead class (view m) n (steps.read m n).0 (view (steps.read m n).1)
-  is_live_read m n s l e = rw (l, e) (read_live m n s l (awake_if (chip m.below).supply e)).0
+  is_live_read m n s l e = rw (l, e) (reads_live m s (awake_if (chip m.below).supply e) n l).0
 
   is_setting_read : (m : K) (n : ℕ) → class n ≡ Setting → SettingRead class (view m) n (steps.read m n).0 (view (steps.read m n).1)
   is_setting_read m n c = rw c (inl (refl, (stood_still (view m), λ i d. refl), λ i d. refl))
@@ -341,6 +344,10 @@ module _ {count : ℕ} {class : ℕ → Class} {reset : ℕ → ℕ} (chart : Ch
     ran = is_ran;
     kept_run = kept_run;
     run_sound = run_sound;
+    sync_refused = λ m r e. refused_by _ r m _ e;
+    synced = λ m s e. rw e (syncs_all m s (awake_if (chip m.below).supply e)).0;
+    sync_sound = λ m s. either_way S (asleep (chip m.below).supply) m (all_synced step m) s
+        (λ e. (syncs_all m s (awake_if (chip m.below).supply e)).1);
     measure_refused = λ m n w r e. ap (back m) (port.measure_refused m.below n w r e);
     measured = λ m n w s e. let d = port.measured m.below n w s.below e in (d.0, measured_view m n w (step.measure m.below n w) d.1);
     measure_sound = λ m n w s h. measure_by m n w (measure_check (class n)) refl s h;

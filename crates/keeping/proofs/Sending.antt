@@ -1,7 +1,7 @@
 -- What the keeper's sending leaves, from the meaning of the port below alone. Assumes nothing.
-use Rattle.std.proofs.Common.{◌≡◌, ℕ, ◌+◌, ◌-◌, ◌<◌, ◌≤◌, Bool, true, false, ◌⊎◌, List, [], ◌∷◌, length, get_or, take, drop, None, sym, refl, ap, ◌∙◌, inl, inr, ⊎_elim, arith, rules}
+use Rattle.std.proofs.Common.{◌≡◌, ℕ, ◌+◌, ◌-◌, ◌<◌, ◌≤◌, Bool, true, false, ◌⊎◌, List, [], ◌∷◌, length, get_or, take, drop, None, sym, refl, ap, subst, ◌∙◌, inl, inr, ⊎_elim, arith, rules}
 use Rattle.std.proofs.lemmas.List.{get_or-take, get_or-drop, length-take-le, length-drop}
-use Rattle.std.proofs.lemmas.Bool.{cases_lt, false≢true}
+use Rattle.std.proofs.lemmas.Bool.{false≢true}
 use Rattle.chart.specs.Replies.{Reply, accepted}
 use Rattle.chart.specs.Rules.{ChartRules}
 use Rattle.chart.specs.declared.class.Class.{Class}
@@ -19,9 +19,9 @@ use Rattle.layers.proofs.Standing.{went_on, ended, owed_fault, restood, stood_st
 use Rattle.owed.specs.Runs.{marked, runs, cleared, OutsideRun, IsNext, AreRuns}
 use Rattle.owed.specs.declared.runs.Run.{Run}
 use Rattle.keeping.specs.Machine.{KeeperModel, KeeperSound, registers, held_at, owed_at, over, words_of, run_back, run_sent, runs_sent, owed_sent}
-use Rattle.owed.proofs.Running.{runs_are, same_runs}
-use Rattle.owed.proofs.Marking.{in_or_out, marked_cleared, marked_cleared_other}
-use Rattle.keeping.proofs.Holding.{setting_low, cleared_none, kept_cleared}
+use Rattle.owed.proofs.Running.{runs_are}
+use Rattle.owed.proofs.Marking.{in_or_out, marked_cleared_other}
+use Rattle.keeping.proofs.Holding.{setting_low, cleared_none, kept_cleared, runs_behind}
 
 -- words that were taken from a list, and given to the same numbers
 ran_own : (first n : ℕ) (ws : List ℕ) (f : ℕ → ℕ) (i : ℕ) → first + n ≤ length ws → first ≤ i → i < first + n → ran first (take n (drop first ws)) f i ≡ get_or ws i 0
@@ -137,34 +137,40 @@ module _ {count : ℕ} {class : ℕ → Class} {reset : ℕ → ℕ} (chart : Ch
     pub run_sends : RunSends (run_sent step m r)
     run_sends = came_back (step.run m.below r.first (words_of m r)) (port.run_sound m.below r.first (words_of m r) s.below fits) did
 
-  -- all runs of a keeper that is awake, from number n on: all is sent, or a transfer failed
+  -- all runs of a keeper that is awake: all is sent, or a transfer failed
   abbrev pub AllSent : KeeperModel M → Reply × KeeperModel M → Type 0
   AllSent m q =
-      ((q.0 ≡ accepted []) × Stood class 0 (view m) (view q.1) × (q.1.held ≡ m.held) × ((i : ℕ) → owed_at q.1 i ≡ false) × S q.1)
+      ((q.0 ≡ accepted []) × Stood class 0 (view m) (view q.1) × (q.1.held ≡ m.held) × S q.1)
       ⊎ (Faulted class q.0 × Stood class 1 (view m) (view q.1) × (q.1.held ≡ m.held) × S q.1)
 
-  then_all : (m : KeeperModel M) (q r : Reply × KeeperModel M) → Stood class 0 (view m) (view q.1) → q.1.held ≡ m.held → AllSent q.1 r → AllSent m r
-  then_all m q r stood same (inl (ok, more, held, none, s)) = inl (ok, stood_on 0 (view m) (view q.1) (view r.1) stood more, held ∙ same, none, s)
-  then_all m q r stood same (inr (fault, more, held, s)) = inr (fault, stood_on 1 (view m) (view q.1) (view r.1) stood more, held ∙ same, s)
+  then_all : (m : KeeperModel M) (q r : Reply × KeeperModel M)
+      → Stood class 0 (view m) (view q.1) → q.1.held ≡ m.held → AllSent q.1 r → AllSent m r
+  then_all m q r stood same (inl (ok, more, held, s)) =
+      inl (ok, stood_on 0 (view m) (view q.1) (view r.1) stood more, held ∙ same, s)
+  then_all m q r stood same (inr (fault, more, held, s)) =
+      inr (fault, stood_on 1 (view m) (view q.1) (view r.1) stood more, held ∙ same, s)
 
   -- what follows the first run, where that was accepted
-  after_first : (m : KeeperModel M) (r : Run) (s : S m) (on : awake m) (n : ℕ) (next : IsNext (owed_at m) n r) (q : Reply × KeeperModel M) (rest : KeeperModel M → Reply × KeeperModel M)
-      → RunSends m r s on n next q → (q.1.owed ≡ cleared r m.owed → S q.1 → awake q.1 → AllSent q.1 (rest q.1)) → AllSent m (onward q rest)
+  after_first : (m : KeeperModel M) (r : Run) (s : S m) (on : awake m) (n : ℕ)
+      (next : IsNext (owed_at m) n r) (q : Reply × KeeperModel M)
+      (rest : KeeperModel M → Reply × KeeperModel M) → RunSends m r s on n next q
+      → (q.1.owed ≡ cleared r m.owed → S q.1 → awake q.1 → AllSent q.1 (rest q.1))
+      → AllSent m (onward q rest)
   after_first m r s on n next q rest (inl (ok, stood, held, owed, sound)) all =
-      rw (went_on q rest [] ok) (then_all m q (rest q.1) stood held (all owed sound (stood.supply ∙ on)))
+      rw (went_on q rest [] ok)
+      (then_all m q (rest q.1) stood held (all owed sound (stood.supply ∙ on)))
   after_first m r s on n next q rest (inr (fault, stood, held, sound)) all =
       rw (ended q rest _ fault.5) (inr (fault, stood, held, sound))
 
-  runs_send : (rs : List Run) (n : ℕ) (m : KeeperModel M) → S m → awake m → AreRuns (owed_at m) n rs → ((i : ℕ) → i < n → owed_at m i ≡ false) → AllSent m (runs_sent step rs m)
-  runs_send [] n m s on none below = inl (refl, stood_still (view m), refl, (λ i. ⊎_elim (below i) (λ from. none i from) (cases_lt i n)), s)
-  runs_send (r ∷ rs) n m s on (next, rest) below =
-      after_first m r s on n next (run_sent step m r) (runs_sent step rs) (run_sends m r s on n next)
-      (λ owed sound awake. runs_send rs (r.first + r.count) (run_sent step m r).1 sound awake
-      (same_runs (owed_at m) (owed_at (run_sent step m r).1) (r.first + r.count) rs (λ i from. sym (ap (λ bs. marked bs i) owed ∙ marked_cleared_other r m.owed i (inr from))) rest)
-      (λ i low. ap (λ bs. marked bs i) owed ∙ ⊎_elim
-      (λ before. marked_cleared_other r m.owed i (inl before) ∙ ⊎_elim (below i) (λ from. next.before i from before) (cases_lt i n))
-      (λ from. marked_cleared r m.owed i (from, low))
-      (cases_lt i r.first)))
+  runs_send : (rs : List Run) (n : ℕ) (m : KeeperModel M) → S m → awake m
+      → AreRuns (owed_at m) n rs → AllSent m (runs_sent step rs m)
+  runs_send [] n m s on none = inl (refl, stood_still (view m), refl, s)
+  runs_send (r ∷ rs) n m s on (next, rest) =
+      let sent = run_sent step m r in
+      after_first m r s on n next sent (runs_sent step rs) (run_sends m r s on n next)
+      (λ owed sound awake. runs_send rs (r.first + r.count) sent.1 sound awake
+      (subst (λ bs. AreRuns (marked bs) (r.first + r.count) rs) (sym owed)
+      (runs_behind r rs m.owed rest)))
 
   pub all_sent : (m : KeeperModel M) → S m → awake m → AllSent m (owed_sent step m)
-  all_sent m s on = runs_send (runs m.owed) 0 m s on (runs_are m.owed) (λ i h. absurd (omega (arith, h)))
+  all_sent m s on = runs_send (runs m.owed) 0 m s on (runs_are m.owed)

@@ -3,7 +3,7 @@
 use Rattle.std.specs.Prelude.{◌≡◌, ◌≢◌, ℕ, ◌+◌, Bool, true, false, ◌||◌, ◌⊎◌, ◌↔◌, None}
 use Rattle.std.specs.Prelude.{List, [], ◌∷◌, length, slice_range}
 use Rattle.chart.specs.Patch.{acted, setting_to}
-use Rattle.chart.specs.Replies.{Reply, accepted}
+use Rattle.chart.specs.Replies.{Reply, accepted, refused}
 use Rattle.chart.specs.declared.class.Class.{Class}
 use Rattle.chart.specs.declared.class.Class.TheVariants.{Setting, Live}
 use Rattle.chart.specs.declared.patch.Patch.{Patch}
@@ -11,10 +11,10 @@ use Rattle.bus.specs.Chips.{Chip}
 use Rattle.port.specs.Checks.{run_check}
 use Rattle.port.specs.Meaning.{PortSteps}
 use Rattle.port.specs.OneByOne.{InOrder}
-use Rattle.layers.specs.Layers.{SentInPieces}
+use Rattle.layers.specs.Layers.{SentInPieces, SendsFirst}
 use Rattle.owed.specs.Runs.{runs, cleared}
 use Rattle.owed.specs.declared.runs.Run.{Run}
-use Rattle.keeping.specs.Machine.{KeeperModel, Kept, held_at, owed_at}
+use Rattle.keeping.specs.Machine.{KeeperModel, Kept, held_at, owed_at, over}
 
 -- what a keeper has of its own: the words that it holds, and which of them are owed
 pub record Own : Type 0 where
@@ -60,17 +60,6 @@ module _ {M : Type 0} (step : PortSteps M) where
     pub if_accepted : q.0.number ≡ 0 → NowHolds n w m q.1 × (owed_at q.1 n ≡ false)
     pub if_refused : q.0.number ≢ 0 → own q.1 ≡ own m
 
-  -- A live register was read. First all that is owed went below, run by run. If that was refused,
-  -- the read ended with its answer. If not, the read went below, and changed nothing here.
-  pub record ReadsLive (n : ℕ) (m : KeeperModel M) (q : Reply × KeeperModel M) : Type 0 where
-    pub answer : Reply
-    pub between : KeeperModel M
-    pub sent : SentInPieces run_below without_run (runs m.owed)
-        (own m) m.below answer (own between) between.below
-    pub if_refused : answer.number ≢ 0 → q ≡ (answer, between)
-    pub if_accepted : answer.number ≡ 0
-        → WentBelow (step.read between.below n) q × (own q.1 ≡ own between)
-
 -- Over a port that keeps or does not, and some chart.
 module _ {M : Type 0} (step : PortSteps M) (chip : M → Chip) (keeps : Bool)
     (class : ℕ → Class) (reset : ℕ → ℕ) where
@@ -78,6 +67,17 @@ module _ {M : Type 0} (step : PortSteps M) (chip : M → Chip) (keeps : Bool)
   supply m = (chip m.below).supply
 
   pub record KeeperLaws (keeper : PortSteps (KeeperModel M)) : Type 0 where
+    -- All that is owed goes below run by run. A run that is accepted is owed no longer; at the
+    -- first that is refused the sending ends, told as owed, and that run and all behind it stay
+    -- owed.
+    pub sending : KeeperModel M → Reply × KeeperModel M
+    pub in_runs : (m : KeeperModel M)
+        → let q = sending m in
+        SentInPieces (run_below step) without_run (runs m.owed)
+        (own m) m.below q.0 (own q.1) q.1.below
+    -- Once all are accepted nothing is owed.
+    pub none_owed : (m : KeeperModel M) → (sending m).0.number ≡ 0
+        → (n : ℕ) → owed_at (sending m).1 n ≡ false
     -- A setting is answered as it is held. Nothing below is asked, and nothing changes.
     pub setting_read : (m : KeeperModel M) (n : ℕ) → class n ≡ Setting
         → keeper.read m n ≡ (accepted (held_at m n ∷ []), m)
@@ -99,9 +99,14 @@ module _ {M : Type 0} (step : PortSteps M) (chip : M → Chip) (keeps : Bool)
     pub run : (m : KeeperModel M) (first : ℕ) (ws : List ℕ)
         → run_check true class first (length ws) (supply m) ≡ None
         → let q = keeper.run m first ws in InOrder keeper.update first ws m q.0 q.1
-    -- With the supply on, what is owed goes ahead of a live read.
+    -- With the supply on, what is owed goes ahead of a live read, and ahead of a sync.
     pub live_read : (m : KeeperModel M) (n : ℕ) → class n ≡ Live → supply m ≡ true
-        → ReadsLive step n m (keeper.read m n)
+        → SendsFirst sending (λ k. k.below) over (λ b. step.read b n) m (keeper.read m n)
+    pub sync : (m : KeeperModel M) → supply m ≡ true
+        → SendsFirst sending (λ k. k.below) over step.sync m (keeper.sync m)
+    -- With the supply off a sync is refused, and nothing changes.
+    pub sync_asleep : (m : KeeperModel M) → supply m ≡ false
+        → keeper.sync m ≡ (refused 5 [], m)
     -- A measurement goes below, and changes nothing here; nor does the supply that comes back.
     pub measure : (m : KeeperModel M) (n w : ℕ)
         → WentBelow (step.measure m.below n w) (keeper.measure m n w)

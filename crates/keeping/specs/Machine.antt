@@ -7,11 +7,11 @@ use Rattle.chart.specs.declared.class.Class.TheVariants.{Setting}
 use Rattle.chart.specs.declared.patch.Patch.{Patch}
 use Rattle.chip.specs.Words.{fresh, Fit}
 use Rattle.bus.specs.Chips.{Chip}
-use Rattle.bus.specs.Checks.{unless}
+use Rattle.bus.specs.Checks.{asleep, unless}
 use Rattle.port.specs.Checks.{read_check, update_check, onward, in_turn}
 use Rattle.port.specs.Meaning.{PortSteps}
 use Rattle.port.specs.OneByOne.{each_updated}
-use Rattle.layers.specs.Layers.{on_owed}
+use Rattle.layers.specs.Layers.{on_owed, sent_first}
 use Rattle.owed.specs.Runs.{marked, runs, cleared, differing}
 use Rattle.owed.specs.declared.runs.Run.{Run}
 
@@ -75,9 +75,15 @@ module _ {M : Type 0} (step : PortSteps M) where
   abbrev pub owed_sent : KeeperModel M → Reply × KeeperModel M
   owed_sent m = runs_sent (runs m.owed) m
 
-  -- a live register is read below once nothing is owed
+  -- a call goes below once nothing is owed
+  abbrev pub owed_first : (M → Reply × M) → KeeperModel M → Reply × KeeperModel M
+  owed_first = sent_first owed_sent (λ k. k.below) over
+
   abbrev pub live_read : KeeperModel M → ℕ → Reply × KeeperModel M
-  live_read m n = onward (owed_sent m) (λ k. back k (step.read k.below n))
+  live_read m n = owed_first (λ b. step.read b n) m
+
+  abbrev pub all_synced : KeeperModel M → Reply × KeeperModel M
+  all_synced = owed_first step.sync
 
   abbrev pub class_read : KeeperModel M → ℕ → Class → Reply × KeeperModel M
   class_read m n Setting = (accepted (held_at m n ∷ []), m)
@@ -108,6 +114,7 @@ module _ {M : Type 0} (step : PortSteps M) where
       read = λ m n. unless (read_check true (class n) (on m)) m (class_read m n (class n));
       update = updated;
       run = each_updated true class on updated;
+      sync = λ m. unless (asleep (on m)) m (all_synced m);
       measure = λ m n w. back m (step.measure m.below n w);
       down = down;
       up = λ m. over (step.up m.below) m;

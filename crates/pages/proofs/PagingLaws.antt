@@ -259,6 +259,8 @@ module _ {count : ℕ} {class : ℕ → Class} {reset : ℕ → ℕ} (chart : Ch
     full = full_put;
     masked = masked_put;
     reach = selects;
+    sync = λ m awake. rw awake refl;
+    sync_asleep = λ m off. rw off refl;
     down = λ m. refl;
     up = λ m. refl;
     measure = measure_believes;

@@ -274,6 +274,14 @@ module _ {count : ℕ} {class : ℕ → Class} {reset : ℕ → ℕ} (chart : Ch
         rw e (run_ran m first ws (run_sent step m first ws) (run_settled false class first (length ws) (chip m.bus).supply e).settings (run_all m first ws sound fit e));
     kept_run = λ m first ws sound fit keeps off e. absurd (false≢true keeps);
     run_sound = λ m first ws sound fit. either_way (PagingSound chip Sound) _ m (run_sent step m first ws) sound (λ e. run_sound m first ws (run_sent step m first ws) (run_all m first ws sound fit e));
+    sync_refused = λ m r e. refused_by _ r m _ e;
+    synced = λ m sound e. rw e (inl (
+      refl,
+      (record { live = λ i l. refl; supply = refl; failed = sym (add-zero _) }, λ i s. refl),
+      λ i s. refl,
+    ));
+    sync_sound = λ m sound.
+        either_way (PagingSound chip Sound) _ m (accepted [], m) sound (λ _. sound);
     measure_refused = λ m n w r e. refused_by _ r m _ e;
     measured = λ m n w sound e.
         rw e (ap (located n) (bus.measure_done m.bus n w e).0, is_measured m n w sound e);

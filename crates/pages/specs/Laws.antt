@@ -1,6 +1,6 @@
 -- The rules of paging in their own words, each as a law of the machine. Assumes nothing.
-use Rattle.std.specs.Prelude.{◌≡◌, ◌≢◌, ℕ, ◌+◌, ◌%◌, ◌<◌, ◌≤◌, false, ◌⊎◌, List, [], ◌∷◌, ◌++◌}
-use Rattle.std.specs.Prelude.{length, take, Some, None, Option}
+use Rattle.std.specs.Prelude.{◌≡◌, ◌≢◌, ℕ, ◌+◌, ◌%◌, ◌<◌, ◌≤◌, true, false, ◌⊎◌, List, [], ◌∷◌}
+use Rattle.std.specs.Prelude.{◌++◌, length, take, Some, None, Option}
 use Rattle.chart.specs.Patch.{acted}
 use Rattle.chart.specs.Replies.{Reply, accepted, refused}
 use Rattle.chart.specs.declared.class.Class.{Class}
@@ -174,6 +174,10 @@ module _ {M : Type 0} (step : Steps M) where
           → RewritesWord n p (steps.read m n) (steps.update m n p)
       -- A page is selected where it has to be, and nowhere else.
       pub reach : (m : P) (n : ℕ) → Selects m n (reached step m n)
+      -- The chip has every setting as it is shown, so a sync sends nothing, and nothing changes;
+      pub sync : (m : P) → (chip m.bus).supply ≡ true → steps.sync m ≡ (accepted [], m)
+      -- with the supply off it is refused.
+      pub sync_asleep : (m : P) → (chip m.bus).supply ≡ false → steps.sync m ≡ (refused 5 [], m)
       -- Once the supply is gone, page 0 is believed.
       pub down : (m : P) → (steps.down m).page ≡ Some 0
       -- What is believed stands when the supply comes,

@@ -5,7 +5,7 @@ use Rattle.chart.specs.Replies.{Reply, accepted}
 use Rattle.chart.specs.declared.class.Class.{Class}
 use Rattle.chart.specs.declared.patch.Patch.{Patch}
 use Rattle.chip.specs.Words.{selector}
-use Rattle.bus.specs.Checks.{measure_check, unless}
+use Rattle.bus.specs.Checks.{asleep, measure_check, unless}
 use Rattle.bus.specs.Chips.{Chip}
 use Rattle.bus.specs.Meaning.{Steps}
 use Rattle.port.specs.Checks.{read_check, update_check, run_check, is_accepted, onward}
@@ -89,6 +89,7 @@ module _ {M : Type 0} (step : Steps M) where
       read = λ m n. unless (read_check false (class n) (on m)) m (fetched m n);
       update = λ m n p. unless (update_check false (class n) (on m)) m (update_sent m n p);
       run = λ m first ws. unless (run_check false class first (length ws) (on m)) m (run_sent m first ws);
+      sync = λ m. unless (asleep (on m)) m (accepted [], m);
       measure = λ m n w. unless (measure_check (class n)) m (told_at m n (step.measure m.bus n w));
       down = λ m. paged (step.down m.bus) (Some 0);
       up = λ m. paged (step.up m.bus) m.page;

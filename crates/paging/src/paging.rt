@@ -7,7 +7,7 @@ ghost use Rattle.paging.specs.Made.{paging_model};
 ghost use Rattle.pages.proofs.PagingMeaning.{paging_meaning};
 
 use bus::bus::Bus;
-use bus::checks::check_measure;
+use bus::checks::{check_awake, check_measure};
 use chart::class::Chart;
 use chart::patch::Patch;
 use chart::refusal::{Errand, Failure, Fault, Refusal};
@@ -187,6 +187,12 @@ impl<B: Bus> Port for Paging<B> {
     fn run(&mut self, first: u16, words: &[u16]) -> Result<(), Refusal<Fault>> {
         self.access().check_run::<B::Chart>(first, words.len())?;
         self.send_run(Register { number: first }, words)
+    }
+
+    /// Sends nothing, since the chip has every setting as it is shown already. It refuses by 5 with
+    /// the supply off.
+    fn sync(&mut self) -> Result<(), Refusal<Fault>> {
+        check_awake(self.bus.supply())
     }
 
     fn measure(&mut self, register: u16, word: u16) -> Result<(), Refusal<Fault>> {

@@ -7,8 +7,11 @@ use Rattle.i2c_target.specs.Traces.{Traced}
 use Rattle.bus.specs.Meaning.{Steps}
 use Rattle.port.specs.Meaning.{PortSteps}
 use Rattle.calls.specs.Asked.{Asked, get, put, measure, down, up}
+use Rattle.calls.specs.declared.PileCall.{PileCall}
+use Rattle.calls.specs.declared.PileCall.TheVariants.{Port, Suspend, Resume}
 use Rattle.calls.specs.declared.PortCall.{PortCall}
-use Rattle.calls.specs.declared.PortCall.TheVariants.{Read, Update, Measure, Down, Up}
+use Rattle.calls.specs.declared.PortCall.TheVariants.{Read, Update, Sync, Measure, Down, Up}
+use Rattle.rest.specs.Rests.{resumed}
 use Rattle.perform.specs.declared.answer.Outcome.{Outcome}
 
 -- what an acceptance answers: a word, or nothing more than yes
@@ -40,9 +43,16 @@ performed step up m = (accepted [], step.up m)
 abbrev pub port_performed : {M : Type 0} → PortSteps M → PortCall → M → Reply × M
 port_performed step (Read n) m = step.read m n
 port_performed step (Update n mask bits) m = step.update m n (patch_of mask bits)
+port_performed step Sync m = step.sync m
 port_performed step (Measure n w) m = step.measure m n w
 port_performed step Down m = (accepted [], step.down m)
 port_performed step Up m = (accepted [], step.up m)
+
+-- one call of a sheet on a pile: one of the port's, or an end of a rest
+abbrev pub pile_performed : {M : Type 0} → PortSteps M → PileCall → M → Reply × M
+pile_performed step (Port c) m = port_performed step c m
+pile_performed step Suspend m = (accepted [], step.down m)
+pile_performed step Resume m = resumed step m
 
 abbrev pub seen_after : {M : Type 0} → (M → Traced) → Reply × M → Seen
 seen_after trace p = record { reply = p.0; passed = length (trace p.1).events }

@@ -1,5 +1,7 @@
 -- What a call in pieces leaves, from what each piece leaves alone. Assumes nothing.
-use Rattle.std.proofs.Common.{◌≡◌, ◌≢◌, ℕ, ◌+◌, eqb, cond, List, [], ◌∷◌, sym, refl, ap, ◌∙◌, subst}
+use Rattle.std.proofs.Common.{◌≡◌, ◌≢◌, ℕ, ◌+◌, eqb, cond, List, [], ◌∷◌, ◌++◌, sym, refl, ap}
+use Rattle.std.proofs.Common.{◌∙◌, subst}
+use Rattle.std.proofs.lemmas.List.{append-nil}
 use Rattle.std.proofs.lemmas.Bool.{cond_both, cond-true, cond-false, eqb-true, eq-eqb, both_ways}
 use Rattle.chart.specs.Patch.{setting_to}
 use Rattle.chart.specs.Replies.{Reply}
@@ -7,7 +9,7 @@ use Rattle.chart.specs.declared.patch.Patch.{Patch}
 use Rattle.chip.specs.Words.{rising}
 use Rattle.port.specs.Checks.{is_accepted, onward, in_turn}
 use Rattle.port.specs.OneByOne.{one_by_one, word_updated, InOrder}
-use Rattle.port.specs.Pieces.{InPieces}
+use Rattle.port.specs.Pieces.{InPieces, Taken, EndedAt}
 
 -- A model: what the calls are on, a state of its own, and how it sends a piece. What is told of a
 -- refusal keeps its number.
@@ -76,6 +78,24 @@ module _ {A K M S : Type 0} (tell : Reply → Reply)
         (λ refused. at_first a more (own k) (below k) q
         (λ e. both_ways _ (same ∙ refused) (eq-eqb _ _ e))
         (back.kept ∙ cond-false _ _ _ (same ∙ refused)) back.told back.under)
+
+-- Where the whole call was accepted, all pieces were.
+module _ {A M S : Type 0} (tell : Reply → Reply)
+    (numbers : (r : Reply) → (tell r).number ≡ r.number)
+    (call : S → M → A → Reply × M) (without : A → S → S)
+    (pieces : List A) (s t : S) (b c : M) (r : Reply) (ok : r.number ≡ 0) where
+  none_refused : (front rest : List A) (between : M) → pieces ≡ front ++ rest
+      → Taken tell call without front s b t between
+      → EndedAt tell call without rest t between r c
+      → Taken tell call without pieces s b t c
+  none_refused front [] between whole taken ended =
+      rw (whole, append-nil front, ended.1) taken
+  none_refused front (a ∷ more) between whole taken (refuses, as_told, left) =
+      absurd (refuses (sym (ap (λ x. x.number) as_told ∙ numbers _) ∙ ok))
+
+  pub all_taken : InPieces tell call without pieces s b r t c
+      → Taken tell call without pieces s b t c
+  all_taken is = none_refused is.front is.rest is.between is.whole is.taken is.ended
 
 -- A run by updates goes word by word, in order.
 module _ {M : Type 0} (update : M → ℕ → Patch → Reply × M) where

@@ -6,7 +6,7 @@ use Rattle.chart.specs.declared.class.Class.{Class}
 use Rattle.chart.specs.declared.class.Class.TheVariants.{Absent, Setting, Live}
 use Rattle.chart.specs.declared.patch.Patch.{Patch}
 use Rattle.chip.specs.Words.{Fit}
-use Rattle.bus.specs.Checks.{measure_check}
+use Rattle.bus.specs.Checks.{asleep, measure_check}
 use Rattle.port.specs.Checks.{read_check, update_check, run_check}
 use Rattle.port.specs.Views.{View, Agree, replaced, ran}
 
@@ -15,6 +15,7 @@ pub record PortSteps (M : Type 0) : Type 0 where
   pub read : M → ℕ → Reply × M
   pub update : M → ℕ → Patch → Reply × M
   pub run : M → ℕ → List ℕ → Reply × M
+  pub sync : M → Reply × M
   pub measure : M → ℕ → ℕ → Reply × M
   pub down : M → M
   pub up : M → M
@@ -47,11 +48,20 @@ SettingRead class v n r after =
     ((r ≡ accepted (v.shown n ∷ [])) × Fine class v v.shown after × Agree class Setting after.settings v.settings)
     ⊎ Failed class v r after
 
--- a live word is answered as the chip has it, and by then the chip has every setting as it is shown
-abbrev pub LiveRead : (ℕ → Class) → View → ℕ → Reply → View → Type 0
-LiveRead class v n r after =
-    ((r ≡ accepted (v.live n ∷ [])) × Fine class v v.shown after × Agree class Setting after.settings after.shown)
+-- These values are answered, and by then the chip has every setting as it is shown; or a transfer
+-- failed.
+abbrev pub AllInChip : (ℕ → Class) → List ℕ → View → Reply → View → Type 0
+AllInChip class values v r after =
+    ((r ≡ accepted values) × Fine class v v.shown after
+    × Agree class Setting after.settings after.shown)
     ⊎ Failed class v r after
+
+-- a live word is answered as the chip has it
+abbrev pub LiveRead : (ℕ → Class) → View → ℕ → Reply → View → Type 0
+LiveRead class v n = AllInChip class (v.live n ∷ []) v
+
+abbrev pub Synced : (ℕ → Class) → View → Reply → View → Type 0
+Synced class = AllInChip class []
 
 -- what becomes of the chip's settings is left free here, and in a run
 abbrev pub Updated : (ℕ → Class) → View → ℕ → Patch → Reply → View → Type 0
@@ -121,6 +131,11 @@ pub record PortMeaning (keeps : Bool) (class : ℕ → Class) (reset : ℕ → �
   pub ran : (m : M) (first : ℕ) (ws : List ℕ) → Sound m → Fit ws → run_check keeps class first (length ws) (view m).supply ≡ None → Ran class (view m) first ws (step.run m first ws).0 (view (step.run m first ws).1)
   pub kept_run : (m : M) (first : ℕ) (ws : List ℕ) → Sound m → Fit ws → keeps ≡ true → (view m).supply ≡ false → run_check keeps class first (length ws) false ≡ None → (step.run m first ws).0 ≡ accepted []
   pub run_sound : (m : M) (first : ℕ) (ws : List ℕ) → Sound m → Fit ws → Sound (step.run m first ws).1
+  -- on every port, whether it keeps or not
+  pub sync_refused : (m : M) (r : Reply) → asleep (view m).supply ≡ Some r → step.sync m ≡ (r, m)
+  pub synced : (m : M) → Sound m → asleep (view m).supply ≡ None
+      → Synced class (view m) (step.sync m).0 (view (step.sync m).1)
+  pub sync_sound : (m : M) → Sound m → Sound (step.sync m).1
   pub measure_refused : (m : M) (n w : ℕ) (r : Reply) → measure_check (class n) ≡ Some r → step.measure m n w ≡ (r, m)
   pub measured : (m : M) (n w : ℕ) → Sound m → measure_check (class n) ≡ None → ((step.measure m n w).0 ≡ accepted []) × Measured class n w (view m) (view (step.measure m n w).1)
   pub measure_sound : (m : M) (n w : ℕ) → Sound m → w < 2 ^ 16 → Sound (step.measure m n w).1

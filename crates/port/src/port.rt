@@ -100,6 +100,13 @@ pub trait Port {
         Ok(())
     }
 
+    /// Sends what the chip has not got yet, so that it then has every setting as it is shown. It
+    /// refuses by 5 with the supply off, and by 6 if a transfer failed. What is shown and the live
+    /// words stand, whatever it answers.
+    fn sync(&mut self) -> Result<(), Refusal<Fault>>
+        ensures { let step = steps Self.Chart.Chart.classed Self.Chart.Chart.resets in
+            (port_reply no_value result, model self.new) ≡ step.sync (model self.old) };
+
     // The chip measures: the word goes into a live register if the supply is on, and nowhere else.
     fn measure(&mut self, register: u16, word: u16) -> Result<(), Refusal<Fault>>
         ensures { (port_reply no_value result, model self.new) ≡ (steps Self.Chart.Chart.classed Self.Chart.Chart.resets).measure (model self.old) register word };

@@ -56,7 +56,7 @@ fn read<P: Port>(port: &mut P, register: u16) -> Result<(), Refusal<Fault>> {
 
 // On the head chart 19 is a setting, 20 to 23 are live, and 24 to 31 are absent.
 #[rattlefmt::skip]
-fn awake<P: Port<Chart = Head>>(port: &mut P) -> [Case; 18] {
+fn awake<P: Port<Chart = Head>>(port: &mut P) -> [Case; 19] {
     let patch = Patch { mask: 0xFFFF, bits: 7 };
     [
         Case { call: "run of 16 from 40", answer: port.run(40, &[7; 16]), expected: 0 },
@@ -77,12 +77,13 @@ fn awake<P: Port<Chart = Head>>(port: &mut P) -> [Case; 18] {
         Case { call: "measure 128", answer: port.measure(128, 7), expected: 2 },
         Case { call: "update 20", answer: port.update(20, patch), expected: 3 },
         Case { call: "measure 19", answer: port.measure(19, 7), expected: 4 },
+        Case { call: "sync", answer: port.sync(), expected: 0 },
     ]
 }
 
 // Asleep is told last, and of settings only by a port that forgets them.
 #[rattlefmt::skip]
-fn asleep<P: Port<Chart = Head>>(port: &mut P) -> [Case; 10] {
+fn asleep<P: Port<Chart = Head>>(port: &mut P) -> [Case; 11] {
     let patch = Patch { mask: 0xFFFF, bits: 7 };
     let of_settings = if P::KEEPS { 0 } else { 5 };
     port.down();
@@ -97,6 +98,7 @@ fn asleep<P: Port<Chart = Head>>(port: &mut P) -> [Case; 10] {
         Case { call: "update 20", answer: port.update(20, patch), expected: 3 },
         Case { call: "update 19", answer: port.update(19, patch), expected: of_settings },
         Case { call: "measure 19", answer: port.measure(19, 7), expected: 4 },
+        Case { call: "sync", answer: port.sync(), expected: 5 },
     ]
 }
 

@@ -11,6 +11,7 @@ use Rattle.chart.specs.declared.class.Class.TheVariants.{Absent, Setting, Live}
 use Rattle.chart.specs.declared.patch.Patch.{Patch}
 use Rattle.i2c_target.specs.Traces.{Traced}
 use Rattle.bus.specs.Chips.{Chip}
+use Rattle.bus.specs.Checks.{asleep}
 use Rattle.bus.proofs.Settled.{either_way}
 use Rattle.port.specs.Checks.{read_check, update_check, run_check, is_accepted}
 use Rattle.port.specs.Meaning.{PortSteps}
@@ -21,11 +22,11 @@ use Rattle.entries.specs.declared.entry.Entry.{Entry}
 use Rattle.entries.proofs.Cutting.{bursts_are}
 use Rattle.entries.proofs.Finding.{ascend_rest}
 use Rattle.entries.proofs.Placing.{entered_adds_one, entered_ascends}
-use Rattle.deferring.specs.Machine.{DeferralModel, new_deferral, over, deferred, back, patched, read_back, passed, burst_sent, bursts_sent, entries_sent, live_read, read_by, class_read, on, place_made, changed, updated, down, deferral_steps}
+use Rattle.deferring.specs.Machine.{DeferralModel, new_deferral, over, deferred, back, patched, read_back, passed, burst_sent, bursts_sent, entries_sent, entries_first, live_read, all_synced, read_by, class_read, on, place_made, changed, updated, down, deferral_steps}
 use Rattle.room.specs.Costing.{waiting_cost, burst_cost, deferral_costs}
 use Rattle.room.specs.declared.costs.Costs.{Costs}
 use Rattle.room.proofs.Paying.{Pays, pays_nothing, pays_more, RoomyPort}
-use Rattle.room.proofs.Layered.{few_cost, Layered, Costs_at, Costs_by, through, costs_nothing, costs_less, scaled, costs_unless, costs_onward, costs_one_by_one}
+use Rattle.room.proofs.Layered.{few_cost, Layered, Costs_at, Costs_by, through, costs_nothing, costs_less, scaled, costs_unless, costs_onward, costs_sent_first, costs_one_by_one}
 
 -- What waits is in order, and no more than a run can have, whatever its patches are.
 abbrev IsShort : List Entry → Type 0
@@ -156,21 +157,37 @@ module _ {M : Type 0} (step : PortSteps M) (trace : M → Traced) (chip : M → 
   abbrev read_cost : ℕ
   read_cost = max c.read most
 
-  below_costs : (m : D) (n : ℕ) → DeferralKept m → Costs_at layer read_cost m (over (step.read m.below n).1 m)
-  below_costs m n kept = costs_less layer c.read read_cost m _ (omega arith) (called c.read m _ kept (port.read m.below n kept.below))
+  -- what costs as much below as a read does
+  abbrev CostsRead : (M → Reply × M) → Type 0
+  CostsRead call = (b : M) → J b → Pays trace left J c.read b (call b).1
 
-  live_costs : (m : D) (n : ℕ) → DeferralKept m → Costs_at layer read_cost m (live_read step m n).1
-  live_costs m n kept =
+  below_costs : (call : M → Reply × M) → CostsRead call
+      → (m : D) → DeferralKept m → Costs_at layer read_cost m (over (call m.below).1 m)
+  below_costs call calls m kept =
+      costs_less layer c.read read_cost m _ (omega arith)
+      (called c.read m _ kept (calls m.below kept.below))
+
+  -- such a call that goes below once nothing waits
+  entries_first_costs : (call : M → Reply × M) → CostsRead call
+      → (m : D) → DeferralKept m → Costs_at layer read_cost m (entries_first step call m).1
+  entries_first_costs call calls m kept =
       let q = entries_sent step m in
       let sends = sends_entries m kept in
-      (costs_onward layer read_cost read_cost m q (λ k. back k (step.read k.below n)) (sends.0, costs_less layer most read_cost m q.1 (omega arith) sends.1)
-      (λ ok. let reads = below_costs q.1 n (sends.0 ok).stays in ((λ _. reads), reads))).1
+      costs_sent_first layer read_cost (entries_sent step) over call m
+      (sends.0, costs_less layer most read_cost m q.1 (omega arith) sends.1)
+      (below_costs call calls)
+
+  reads : (n : ℕ) → CostsRead (λ b. step.read b n)
+  reads n b = port.read b n
+
+  live_costs : (m : D) (n : ℕ) → DeferralKept m → Costs_at layer read_cost m (live_read step m n).1
+  live_costs m n = entries_first_costs (λ b. step.read b n) (reads n) m
 
   setting_costs : (o : Option Patch) (m : D) (n : ℕ) → DeferralKept m → Costs_at layer read_cost m (read_by step m n o).1
-  setting_costs None m n kept = below_costs m n kept
+  setting_costs None m n kept = below_costs (λ b. step.read b n) (reads n) m kept
   setting_costs (Some p) m n kept =
       let q = step.read m.below n in
-      let read = below_costs m n kept in
+      let read = below_costs (λ b. step.read b n) (reads n) m kept in
       cond_both (complete p) (accepted (acted p 0 ∷ []), m) (read_back m p q) (λ r. Costs_at layer read_cost m r.1)
       (λ _. costs_nothing layer read_cost m kept)
       (λ _. cond_both (is_accepted q.0) (patched p q.0, over q.1 m) (back m q) (λ r. Costs_at layer read_cost m r.1) (λ _. read) (λ _. read))
@@ -194,6 +211,9 @@ module _ {M : Type 0} (step : PortSteps M) (trace : M → Traced) (chip : M → 
     read = λ m n kept. either_way (Costs_at layer read_cost m) (read_check keeps (class n) (on step chip keeps class m)) m (class_read step m n (class n)) (costs_nothing layer read_cost m kept) (λ _. class_costs (class n) m n kept);
     update = λ m n p kept. (update_costs m n p kept).1;
     run = run_costs;
+    sync = λ m kept. either_way (Costs_at layer read_cost m) (asleep (on step chip keeps class m)) m
+        (all_synced step m) (costs_nothing layer read_cost m kept)
+        (λ _. entries_first_costs step.sync port.sync m kept);
     measure = λ m n v kept. called 0 m _ kept (port.measure m.below n v kept.below);
     down = down_costs;
     up = λ m kept. called 0 m _ kept (port.up m.below kept.below);

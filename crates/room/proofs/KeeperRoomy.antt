@@ -11,6 +11,7 @@ use Rattle.chart.specs.declared.class.Class.TheVariants.{Absent, Setting, Live}
 use Rattle.chart.specs.declared.patch.Patch.{Patch}
 use Rattle.i2c_target.specs.Traces.{Traced}
 use Rattle.bus.specs.Chips.{Chip}
+use Rattle.bus.specs.Checks.{asleep}
 use Rattle.bus.proofs.Settled.{either_way}
 use Rattle.port.specs.Checks.{read_check, update_check, run_check, is_accepted}
 use Rattle.port.specs.Meaning.{PortSteps}
@@ -20,12 +21,12 @@ use Rattle.owed.specs.Runs.{marked, runs, cleared, differing, IsNext, AreRuns}
 use Rattle.owed.specs.declared.runs.Run.{Run}
 use Rattle.owed.proofs.Running.{runs_are, same_runs}
 use Rattle.owed.proofs.Marking.{marked_cleared_other, marked_set_other, marked_set_false, length_differing}
-use Rattle.keeping.specs.Machine.{KeeperModel, registers, new_keeper, held_at, owed_at, over, holding, words_of, back, sent, run_sent, runs_sent, owed_sent, live_read, class_read, on, changed, updated, down, keeper_steps}
+use Rattle.keeping.specs.Machine.{KeeperModel, registers, new_keeper, held_at, owed_at, over, holding, words_of, back, sent, run_sent, runs_sent, owed_sent, owed_first, live_read, all_synced, class_read, on, changed, updated, down, keeper_steps}
 use Rattle.keeping.proofs.Holding.{none_marked, cleared_none}
 use Rattle.room.specs.Costing.{owed_cost, longest_cost, keeper_costs}
 use Rattle.room.specs.declared.costs.Costs.{Costs}
 use Rattle.room.proofs.Paying.{Pays, pays_nothing, RoomyPort}
-use Rattle.room.proofs.Layered.{few_cost, Layered, Costs_at, Costs_by, through, costs_nothing, costs_less, scaled, costs_onward, costs_one_by_one}
+use Rattle.room.proofs.Layered.{few_cost, Layered, Costs_at, Costs_by, through, costs_nothing, costs_less, scaled, costs_onward, costs_sent_first, costs_one_by_one}
 use Rattle.room.proofs.Counting.{owed_count, none_counted, counted_within, set_adds_one, unset_adds_none, cleared_takes}
 
 -- a keeper's costs by what its port is
@@ -186,15 +187,18 @@ module _ {M : Type 0} (step : PortSteps M) (trace : M → Traced) (chip : M → 
       let all = sends_runs (r ∷ rs) 0 m kept are in
       (all.0, costs_less layer (longest_cost c) read_cost m _ (failing_read keeps c not_kept) all.1)
 
+  -- a call that goes below once nothing is owed, and costs what a read does there
+  owed_first_costs : (call : M → Reply × M)
+      → ((b : M) → J b → Pays trace left J c.read b (call b).1)
+      → (m : K) → KeeperKept m → Costs_at layer read_cost m (owed_first step call m).1
+  owed_first_costs call calls m kept =
+      costs_sent_first layer read_cost (owed_sent step) over call m
+      (sends_owed (runs m.owed) m kept (runs_are m.owed))
+      (λ k kept_now. costs_less layer c.read read_cost k _ (least_read keeps c)
+      (called c.read k _ kept_now (calls k.below kept_now.below)))
+
   live_costs : (m : K) (n : ℕ) → KeeperKept m → Costs_at layer read_cost m (live_read step m n).1
-  live_costs m n kept =
-      let q = owed_sent step m in
-      let sends = sends_owed (runs m.owed) m kept (runs_are m.owed) in
-      (costs_onward layer read_cost read_cost m q (λ k. back k (step.read k.below n)) sends
-      (λ ok.
-      let kept_now = (sends.0 ok).stays in
-      let reads = costs_less layer c.read read_cost q.1 _ (least_read keeps c) (called c.read q.1 _ kept_now (port.read q.1.below n kept_now.below)) in
-      ((λ _. reads), reads))).1
+  live_costs m n = owed_first_costs (λ b. step.read b n) (λ b j. port.read b n j) m
 
   class_costs : (d : Class) (m : K) (n : ℕ) → KeeperKept m → Costs_at layer read_cost m (class_read step m n d).1
   class_costs Setting m n kept = costs_nothing layer read_cost m kept
@@ -221,6 +225,10 @@ module _ {M : Type 0} (step : PortSteps M) (trace : M → Traced) (chip : M → 
     read = λ m n kept. either_way (Costs_at layer read_cost m) (read_check true (class n) (on step chip keeps class reset m)) m (class_read step m n (class n)) (costs_nothing layer read_cost m kept) (λ _. class_costs (class n) m n kept);
     update = update_costs;
     run = run_costs;
+    sync = λ m kept. either_way (Costs_at layer read_cost m)
+        (asleep (on step chip keeps class reset m)) m (all_synced step m)
+        (costs_nothing layer read_cost m kept)
+        (λ _. owed_first_costs step.sync port.sync m kept);
     measure = λ m n v kept. called 0 m _ kept (port.measure m.below n v kept.below);
     down = down_costs;
     up = λ m kept. called 0 m _ kept (port.up m.below kept.below);

@@ -9,6 +9,7 @@ use Rattle.bus.specs.Checks.{unless}
 use Rattle.port.specs.Checks.{is_accepted, onward}
 use Rattle.chart.specs.Patch.{setting_to}
 use Rattle.port.specs.OneByOne.{one_by_one}
+use Rattle.layers.specs.Layers.{sent_first}
 use Rattle.room.specs.Costing.{longest_cost}
 use Rattle.room.specs.declared.costs.Costs.{Costs}
 use Rattle.room.proofs.Paying.{Pays, pays_nothing, pays_more, pays_both, room_less}
@@ -79,6 +80,18 @@ module _ {M K : Type 0} (L : Layered M K) where
       let after = λ (n : ℕ) (p : Costs_at n q.1 (next q.1).1). costs_less (0 + n) n m (next q.1).1 (omega arith) (pays_both traced left_over L.Kept 0 n m q.1 (next q.1).1 (first.0 ok) p) in
       ((λ all. after a ((more ok).0 all)), after b (more ok).1))
       (λ no. ((λ ok. absurd (both_ways _ no ok)), first.1))
+
+  -- a call below, once all is sent
+  pub costs_sent_first : (cost : ℕ) (sending : K → Reply × K) (over : M → K → K)
+      (call : M → Reply × M) (m : K) → Costs_by 0 cost m (sending m)
+      → ((k : K) → L.Kept k → Costs_at cost k (over (call (L.below k)).1 k))
+      → Costs_at cost m (sent_first sending L.below over call m).1
+  costs_sent_first cost sending over call m sends each =
+      let q = sending m in
+      let next : K → Reply × K = λ k. let p = call (L.below k) in (p.0, over p.1 k) in
+      (costs_onward cost cost m q next sends (λ ok.
+      let did = each q.1 (sends.0 ok).stays in
+      ((λ _. did), did))).1
 
   -- so many updates, up to the first that is refused, which alone may cost d more
   pub costs_one_by_one : (a d : ℕ) (update : K → ℕ → Patch → Reply × K) → ((m : K) (n : ℕ) (p : Patch) → L.Kept m → Costs_by a (d + a) m (update m n p))

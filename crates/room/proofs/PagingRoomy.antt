@@ -9,7 +9,7 @@ use Rattle.chart.specs.declared.class.Class.{Class}
 use Rattle.chart.specs.declared.patch.Patch.{Patch}
 use Rattle.i2c_target.specs.Traces.{Traced}
 use Rattle.bus.specs.Chips.{Chip}
-use Rattle.bus.specs.Checks.{measure_check}
+use Rattle.bus.specs.Checks.{asleep, measure_check}
 use Rattle.bus.specs.Meaning.{Steps}
 use Rattle.bus.proofs.Settled.{either_way}
 use Rattle.port.specs.Checks.{read_check, update_check, run_check, is_accepted, onward}
@@ -116,6 +116,8 @@ module _ {M : Type 0} (step : Steps M) (trace : M → Traced) (bus : RoomyBus st
       update = λ k n p _. either_way (Sends 20 k) (update_check false (class n) (on step chip class k)) k (update_sent step k n p) (sends_nothing 20 k) (λ _. update_sends k n p);
       run = λ k first ws _. either_way (Sends (20 + 2 * length ws) k) (run_check false class first (length ws) (on step chip class k)) k (run_sent step k first ws)
           (sends_nothing (20 + 2 * length ws) k) (λ _. run_sends k first ws);
+      sync = λ k _. either_way (Sends 14 k) (asleep (on step chip class k)) k (accepted [], k)
+          (sends_nothing 14 k) (λ _. sends_nothing 14 k);
       measure = λ k n w _. either_way (Sends 0 k) (measure_check (class n)) k _ (sends_nothing 0 k) (λ _. below 0 k _ (bus (measure n w) k.bus));
       down = λ k _. below 0 k _ (bus down k.bus);
       up = λ k _. below 0 k _ (bus up k.bus);

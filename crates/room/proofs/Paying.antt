@@ -11,11 +11,13 @@ use Rattle.bus.specs.Meaning.{Steps}
 use Rattle.port.specs.Checks.{is_accepted, onward}
 use Rattle.port.specs.Meaning.{PortSteps}
 use Rattle.calls.specs.Asked.{Asked}
+use Rattle.calls.specs.declared.PileCall.{PileCall}
+use Rattle.calls.specs.declared.PileCall.TheVariants.{Port, Suspend, Resume}
 use Rattle.calls.specs.declared.PortCall.{PortCall}
-use Rattle.calls.specs.declared.PortCall.TheVariants.{Read, Update, Measure, Down, Up}
-use Rattle.perform.specs.Performed.{performed, port_performed, walked}
+use Rattle.calls.specs.declared.PortCall.TheVariants.{Read, Update, Sync, Measure, Down, Up}
+use Rattle.perform.specs.Performed.{performed, port_performed, pile_performed, walked}
 use Rattle.room.specs.Events.{call_events}
-use Rattle.room.specs.Costing.{port_call_cost}
+use Rattle.room.specs.Costing.{port_call_cost, pile_call_cost}
 use Rattle.room.specs.declared.costs.Costs.{Costs}
 
 -- room for less is room too
@@ -68,6 +70,7 @@ module _ {M : Type 0} (trace : M → Traced) (left : M → ℕ) (J : M → Type 
     pub read : (m : M) (n : ℕ) → J m → Pays c.read m (step.read m n).1
     pub update : (m : M) (n : ℕ) (p : Patch) → J m → Pays c.update m (step.update m n p).1
     pub run : (m : M) (first : ℕ) (ws : List ℕ) → J m → Pays (c.run + c.word * length ws) m (step.run m first ws).1
+    pub sync : (m : M) → J m → Pays c.read m (step.sync m).1
     pub measure : (m : M) (n w : ℕ) → J m → Pays 0 m (step.measure m n w).1
     pub down : (m : M) → J m → Pays c.down m (step.down m)
     pub up : (m : M) → J m → Pays 0 m (step.up m)
@@ -75,9 +78,21 @@ module _ {M : Type 0} (trace : M → Traced) (left : M → ℕ) (J : M → Type 
   pub port_call_pays : (step : PortSteps M) (c : Costs) → RoomyPort step c → (call : PortCall) (m : M) → J m → Pays (port_call_cost c call) m (port_performed step call m).1
   port_call_pays step c port (Read n) m j = port.read m n j
   port_call_pays step c port (Update n mask bits) m j = port.update m n (patch_of mask bits) j
+  port_call_pays step c port Sync m j = port.sync m j
   port_call_pays step c port (Measure n w) m j = port.measure m n w j
   port_call_pays step c port Down m j = port.down m j
   port_call_pays step c port Up m j = port.up m j
+
+  -- a call of a sheet
+  pub pile_call_pays : (step : PortSteps M) (c : Costs) → RoomyPort step c → (call : PileCall)
+      (m : M) → J m → Pays (pile_call_cost c call) m (pile_performed step call m).1
+  pile_call_pays step c port (Port call) m j = port_call_pays step c port call m j
+  pile_call_pays step c port Suspend m j = port.down m j
+  pile_call_pays step c port Resume m j =
+      let woken = port.up m j in
+      let sync = port.sync (step.up m) woken.stays in
+      let both = pays_both 0 c.read m (step.up m) _ woken sync in
+      pays_more (0 + c.read) c.read m _ (omega arith) both
 
 -- what owes nothing, and is always as it should be
 abbrev pub owes_none : {M : Type 0} → M → ℕ

@@ -1,7 +1,9 @@
 -- How many events a call on a port makes on the wire at most, with those that sending what it leaves owed makes later. Assumes nothing.
 use Rattle.std.specs.Prelude.{ℕ, ◌+◌, ◌*◌, max, Bool, cond}
+use Rattle.calls.specs.declared.PileCall.{PileCall}
+use Rattle.calls.specs.declared.PileCall.TheVariants.{Port, Suspend, Resume}
 use Rattle.calls.specs.declared.PortCall.{PortCall}
-use Rattle.calls.specs.declared.PortCall.TheVariants.{Read, Update, Measure, Down, Up}
+use Rattle.calls.specs.declared.PortCall.TheVariants.{Read, Update, Sync, Measure, Down, Up}
 use Rattle.room.specs.Events.{get_events, put_events}
 use Rattle.room.specs.declared.costs.Costs.{Costs}
 
@@ -56,9 +58,17 @@ deferral_costs c =
     let burst = burst_cost c in
     record { read = max c.read burst; update = burst; run = burst; word = waiting_cost c; down = c.down }
 
+-- A sync costs what a live read may: all that is owed is sent, and then a call goes below.
 abbrev pub port_call_cost : Costs → PortCall → ℕ
 port_call_cost c (Read n) = c.read
 port_call_cost c (Update n mask bits) = c.update
+port_call_cost c Sync = c.read
 port_call_cost c (Measure n w) = 0
 port_call_cost c Down = c.down
 port_call_cost c Up = 0
+
+-- to suspend is down; to resume is up, which makes none, and a sync
+abbrev pub pile_call_cost : Costs → PileCall → ℕ
+pile_call_cost c (Port call) = port_call_cost c call
+pile_call_cost c Suspend = c.down
+pile_call_cost c Resume = c.read

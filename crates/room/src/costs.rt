@@ -1,9 +1,10 @@
 // The events of calls on a port.
 ghost use Rattle.std.specs.Prelude.{◌≡◌, ◌+◌, ◌*◌, ◌^◌, ◌<◌, false, sum_by, SomeIff};
 ghost use Rattle.room.specs.Costing.{paging_costs, owing_costs, keeper_costs, longest_cost, deferral_costs, port_call_cost};
+ghost use Rattle.room.specs.Costing.{pile_call_cost};
 
 use crate::events::{GET, MOST_WORDS, put_events};
-use calls::PortCall;
+use calls::{PileCall, PortCall};
 use owed::marks::REGISTERS;
 
 // The most events that a call on a port makes. What it leaves owed is counted with it, although a later call sends that.
@@ -92,20 +93,33 @@ impl Costs {
         ensures { result ≡ port_call_cost self.now call.now }
     {
         match call {
-            PortCall::Read { .. } => self.read,
+            // A sync sends what a live read sends before either goes below.
+            PortCall::Read { .. } | PortCall::Sync => self.read,
             PortCall::Update { .. } => self.update,
             PortCall::Down => self.down,
             PortCall::Measure { .. } | PortCall::Up => 0,
         }
     }
 
-    // The most events of a list of calls; None exactly where 64 bits cannot tell it.
-    pub fn room(self, calls: &[PortCall]) -> Option<usize>
-        ensures { let most = sum_by (port_call_cost self) calls.now in
+    // One call of a sheet.
+    fn of_pile(&self, call: &PileCall) -> usize
+        ensures { result ≡ pile_call_cost self.now call.now }
+    {
+        match call {
+            PileCall::Port(call) => self.of(call),
+            PileCall::Suspend => self.down,
+            PileCall::Resume => self.read,
+        }
+    }
+
+    /// The most events of a list of calls on a port of these costs; None exactly where 64 bits
+    /// cannot tell it.
+    pub fn room(self, calls: &[PileCall]) -> Option<usize>
+        ensures { let most = sum_by (pile_call_cost self) calls.now in
             SomeIff result (most < 2 ^ 64) most }
     {
         calls
             .iter()
-            .try_fold(0usize, |all, call| all.checked_add(self.of(call)))
+            .try_fold(0usize, |all, call| all.checked_add(self.of_pile(call)))
     }
 }

@@ -4,11 +4,13 @@ use Rattle.std.specs.Option.{ok_or}
 use Rattle.std.specs.Str.{bytes_eq}
 use Rattle.sheet.specs.declared.Make.{Make}
 use Rattle.sheet.specs.declared.ChartName.{ChartName}
-use Rattle.sheet.specs.declared.layers.Layer.{Layer}
 use Rattle.sheet.specs.declared.Make.TheVariants.{I2c, Window}
 use Rattle.sheet.specs.declared.ChartName.TheVariants.{Head, Valve}
-use Rattle.sheet.specs.declared.layers.Layer.TheVariants.{Keeper, Deferral}
 use Rattle.calls.specs.Asked.{Asked, get, put, measure, down, up}
+use Rattle.calls.specs.declared.Layer.{Layer}
+use Rattle.calls.specs.declared.Layer.TheVariants.{Keeper, Deferral}
+use Rattle.calls.specs.declared.PileCall.{PileCall}
+use Rattle.calls.specs.declared.PileCall.TheVariants.{Port, Suspend, Resume}
 use Rattle.calls.specs.declared.PortCall.{PortCall}
 use Rattle.calls.specs.declared.PortCall.TheVariants as port
 use Rattle.sheet.specs.declared.Mistake.{Mistake}
@@ -108,7 +110,10 @@ put_of (w ∷ ws) = put_with (number_of w) (numbers_of ws)
 
 -- a name of the calls on a pile, and of those on a bus alone
 abbrev pub only_on_pile : List ℕ → Bool
-only_on_pile name = bytes_eq name (codes "read") || bytes_eq name (codes "update")
+only_on_pile name =
+    bytes_eq name (codes "read") || (bytes_eq name (codes "update") ||
+    (bytes_eq name (codes "sync") || (bytes_eq name (codes "suspend") ||
+    bytes_eq name (codes "resume"))))
 
 abbrev pub only_on_bus : List ℕ → Bool
 only_on_bus name = bytes_eq name (codes "get") || bytes_eq name (codes "put")
@@ -123,12 +128,20 @@ call_named name ws =
     (cond (bytes_eq name (codes "up")) (map_ok (λ _. up) (nothing ws))
     (Err (cond (only_on_pile name) NoPile UnknownStatement))))))
 
--- a call on a pile
+-- a call on the port of a pile
 abbrev pub port_call_named : List ℕ → List (List ℕ) → Result PortCall Mistake
 port_call_named name ws =
     cond (bytes_eq name (codes "read")) (map_ok port.Read (one_number ws))
     (cond (bytes_eq name (codes "update")) (map_ok (λ p. port.Update p.0 p.1 p.2) (three_numbers ws))
+    (cond (bytes_eq name (codes "sync")) (map_ok (λ _. port.Sync) (nothing ws))
     (cond (bytes_eq name (codes "measure")) (map_ok (λ p. port.Measure p.0 p.1) (two_numbers ws))
     (cond (bytes_eq name (codes "down")) (map_ok (λ _. port.Down) (nothing ws))
     (cond (bytes_eq name (codes "up")) (map_ok (λ _. port.Up) (nothing ws))
-    (Err (cond (only_on_bus name) UnderPile UnknownStatement))))))
+    (Err (cond (only_on_bus name) UnderPile UnknownStatement)))))))
+
+-- a call on a pile
+abbrev pub pile_call_named : List ℕ → List (List ℕ) → Result PileCall Mistake
+pile_call_named name ws =
+    cond (bytes_eq name (codes "suspend")) (map_ok (λ _. Suspend) (nothing ws))
+    (cond (bytes_eq name (codes "resume")) (map_ok (λ _. Resume) (nothing ws))
+    (map_ok Port (port_call_named name ws)))

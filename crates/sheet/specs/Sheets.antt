@@ -1,31 +1,32 @@
 -- What a sheet says as a whole. Assumes nothing.
-use Rattle.std.specs.Prelude.{◌≡◌, ℕ, ◌+◌, Bool, true, false, cond, ◌&&◌, List, [], ◌∷◌, ◌++◌, map, codes, is_some, Some, None, Ok, Err, vec_items, Option, Result}
+use Rattle.std.specs.Prelude.{◌≡◌, ℕ, ◌+◌, Bool, true, false, cond, ◌&&◌, List, [], ◌∷◌, ◌++◌, map, fold, codes, is_some, Some, None, Ok, Err, vec_items, Option, Result}
 use Rattle.std.specs.Option.{unwrap_or}
 use Rattle.std.specs.Str.{bytes_eq}
 use Rattle.sheet.specs.declared.ChartName.{ChartName}
 use Rattle.sheet.specs.declared.ChartName.TheVariants.{Head}
 use Rattle.sheet.specs.declared.Fault.{Fault}
 use Rattle.sheet.specs.declared.Fault.TheVariants.{Memory, Wrong}
-use Rattle.sheet.specs.declared.layers.Layer.{Layer}
 use Rattle.sheet.specs.declared.layers.Layers.{Layers}
 use Rattle.sheet.specs.declared.Make.{Make}
 use Rattle.sheet.specs.declared.Make.TheVariants.{I2c, Window}
 use Rattle.sheet.specs.declared.Calls.{Calls}
 use Rattle.sheet.specs.declared.Calls.TheVariants.{Bus, Pile}
 use Rattle.calls.specs.Asked.{Asked, asked}
-use Rattle.calls.specs.declared.PortCall.{PortCall}
+use Rattle.calls.specs.declared.Layer.{Layer}
+use Rattle.calls.specs.declared.PileCall.{PileCall}
+use Rattle.calls.specs.declared.PileCall.TheVariants as pile_call
 use Rattle.sheet.specs.declared.Mistake.{Mistake}
-use Rattle.sheet.specs.declared.Mistake.TheVariants.{SecondBus, SecondChart, SecondPile, LateOpening, NoBus, MarksOnWindow}
+use Rattle.sheet.specs.declared.Mistake.TheVariants.{SecondBus, SecondChart, SecondPile, LateOpening, NoBus, MarksOnWindow, SecondSuspend, NoSuspend, NoResume}
 use Rattle.sheet.specs.declared.Sheet.{Sheet}
 use Rattle.sheet.specs.declared.LineError.{LineError}
 use Rattle.sheet.specs.declared.LineError.TheVariants as line_error
 use Rattle.sheet.specs.Cut.{before, words_of, lines_of}
-use Rattle.sheet.specs.Said.{bus_of, chart_of, marks_of, pile_of, call_named, port_call_named}
+use Rattle.sheet.specs.Said.{bus_of, chart_of, marks_of, pile_of, call_named, pile_call_named}
 
 -- what is to be performed: calls on a bus alone, or on a pile over it, with its layers from the bottom up
 pub data Job : Type 0 where
   on_bus : List Asked → Job
-  on_pile : List Layer → List PortCall → Job
+  on_pile : List Layer → List PileCall → Job
 
 -- from the bottom up
 abbrev pub listed : Layers → List Layer
@@ -66,6 +67,20 @@ abbrev pub is_pile : Job → Bool
 is_pile (on_bus cs) = false
 is_pile (on_pile ls cs) = true
 
+-- whether a rest is on after a call, by whether one is on before it
+abbrev pub rest_after : Bool → PileCall → Bool
+rest_after on (pile_call.Port c) = on
+rest_after on pile_call.Suspend = true
+rest_after on pile_call.Resume = false
+
+-- whether a rest is on after these calls
+abbrev pub at_rest : List PileCall → Bool
+at_rest cs = fold rest_after false cs
+
+abbrev pub job_at_rest : Job → Bool
+job_at_rest (on_bus cs) = false
+job_at_rest (on_pile ls cs) = at_rest cs
+
 -- the first mistake in the words of a line, or else what becomes of what they say
 abbrev pub and_then : {X : Type 0} → Result X Mistake → (X → Result Sofar Mistake) → Result Sofar Mistake
 and_then (Ok x) next = next x
@@ -88,13 +103,22 @@ abbrev pub with_pile : Sofar → List Layer → Result Sofar Mistake
 with_pile d ls = early d (cond (is_pile d.job) (Err SecondPile) (Ok (record d { job = on_pile ls [] })))
 
 -- a call comes after the bus
-abbrev pub with_job : Sofar → Job → Result Sofar Mistake
-with_job d job = cond (is_some d.make) (Ok (record d { job = job })) (Err NoBus)
+abbrev pub after_bus : Sofar → Result Sofar Mistake → Result Sofar Mistake
+after_bus d r = cond (is_some d.make) r (Err NoBus)
+
+-- a rest begins while none is on, and ends while one is
+abbrev pub in_turn : {X : Type 0} → Bool → PileCall → Result X Mistake → Result X Mistake
+in_turn on (pile_call.Port c) r = r
+in_turn on pile_call.Suspend r = cond on (Err SecondSuspend) r
+in_turn on pile_call.Resume r = cond on r (Err NoSuspend)
 
 -- which calls a line may hold is settled by what they are performed on
 abbrev pub with_call : Sofar → Job → List ℕ → List (List ℕ) → Result Sofar Mistake
-with_call d (on_bus cs) name ws = and_then (call_named name ws) (λ c. with_job d (on_bus (cs ++ c ∷ [])))
-with_call d (on_pile ls cs) name ws = and_then (port_call_named name ws) (λ c. with_job d (on_pile ls (cs ++ c ∷ [])))
+with_call d (on_bus cs) name ws =
+    and_then (call_named name ws) (λ c. after_bus d (Ok (record d { job = on_bus (cs ++ c ∷ []) })))
+with_call d (on_pile ls cs) name ws =
+    and_then (pile_call_named name ws) (λ c.
+    after_bus d (in_turn (at_rest cs) c (Ok (record d { job = on_pile ls (cs ++ c ∷ []) }))))
 
 -- a statement by its name and the words after it
 abbrev pub with_statement : Sofar → List ℕ → List (List ℕ) → Result Sofar Mistake
@@ -126,7 +150,10 @@ whole s = record { make = s.make; name = s.chart; marks = vec_items s.marks; job
 -- at the end of the text, at the line after the last
 abbrev pub finished_with : ℕ → Sofar → Option Make → Result Whole (ℕ × Mistake)
 finished_with n d None = Err (n, NoBus)
-finished_with n d (Some m) = Ok (record { make = m; name = unwrap_or d.name Head; marks = d.marks; job = d.job })
+finished_with n d (Some m) =
+    let name = unwrap_or d.name Head in
+    let all : Whole = record { make = m; name = name; marks = d.marks; job = d.job } in
+    cond (job_at_rest d.job) (Err (n, NoResume)) (Ok all)
 
 abbrev pub finished : ℕ → Sofar → Result Whole (ℕ × Mistake)
 finished n d = finished_with n d d.make

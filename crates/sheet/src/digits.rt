@@ -29,7 +29,8 @@ fn in_base(digits: &[u8], base: u16) -> Option<u16>
     )
 }
 
-// The number that a word writes: decimal, or hexadecimal after `0x`.
+/// The number that a word writes: decimal, or hexadecimal after `0x`. None where it writes none, or
+/// one above 65535.
 pub fn number(word: &[u8]) -> Option<u16>
     ensures { result ≡ numeral word.now }
 {

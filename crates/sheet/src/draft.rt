@@ -1,10 +1,10 @@
 // What a sheet has said so far.
 ghost use Rattle.std.specs.Prelude.{◌≡◌, cond, vec_items};
 ghost use Rattle.sheet.specs.Said.{Gives, map_ok};
-ghost use Rattle.sheet.specs.Sheets.{listed, blank_sheet, no_calls, with_bus, with_chart, with_marks, with_pile, with_call, with_statement, after_line, finished, Reads};
+ghost use Rattle.sheet.specs.Sheets.{listed, blank_sheet, no_calls, with_bus, with_chart, with_marks, with_pile, with_call, with_statement, after_line, in_turn, rest_after, job_at_rest, job_of, finished, Reads};
 
 use crate::cut::{Words, uncommented};
-use crate::{Calls, ChartName, Fault, Layers, LineError, Make, Mistake, Sheet, line};
+use crate::{Calls, ChartName, Fault, Layers, LineError, Make, Mistake, PileCall, Sheet, line};
 use std::alloc::Global;
 use std::marker::Model;
 
@@ -16,6 +16,23 @@ pub struct Draft {
     // Of all `marks` lines, where one came.
     marks: Option<Vec<u8>>,
     calls: Calls,
+    // Whether a rest is on after these calls, so that no line has to look through them.
+    at_rest: bool,
+    ghost of_calls: { at_rest ≡ job_at_rest (job_of calls) },
+}
+
+// Whether a rest is on after a call, by whether one is on before it. It begins while none is on,
+// and ends while one is.
+fn rest_after(at_rest: bool, call: PileCall) -> Result<bool, Mistake>
+    ensures { result ≡ in_turn at_rest call (Ok (rest_after at_rest call)) }
+{
+    match call {
+        PileCall::Port(_) => Ok(at_rest),
+        PileCall::Suspend if at_rest => Err(Mistake::SecondSuspend),
+        PileCall::Suspend => Ok(true),
+        PileCall::Resume if at_rest => Ok(false),
+        PileCall::Resume => Err(Mistake::NoSuspend),
+    }
 }
 
 impl Model for Draft {
@@ -38,6 +55,7 @@ impl Draft {
             chart: None,
             marks: None,
             calls: Calls::Bus(Vec::new(heap)),
+            at_rest: false,
         }
     }
 
@@ -106,7 +124,8 @@ impl Draft {
         Ok(())
     }
 
-    // Which calls a line may hold is settled by what they are performed on. That the bus is missing is told after what is wrong with the words.
+    // Which calls a line may hold is settled by what they are performed on. That the bus is missing
+    // is told after what is wrong with the words.
     fn call(&mut self, name: &[u8], words: Words) -> Result<(), LineError>
         ensures { Gives (λ _. self.new) result (with_call self.old self.old.job name.now words.entry) }
     {
@@ -118,9 +137,11 @@ impl Draft {
                 calls.push(call)?;
             }
             Calls::Pile { calls, .. } => {
-                let call = line::read_port_call(name, words)?;
+                let call = line::read_pile_call(name, words)?;
                 let _ = bus?;
+                let at_rest = rest_after(self.at_rest, call)?;
                 calls.push(call)?;
+                self.at_rest = at_rest;
             }
         }
         Ok(())
@@ -157,6 +178,10 @@ impl Draft {
     {
         let mistake = Mistake::NoBus;
         let make = self.make.ok_or(Fault::Wrong { line, mistake })?;
+        if self.at_rest {
+            let mistake = Mistake::NoResume;
+            return Err(Fault::Wrong { line, mistake });
+        }
         Ok(Sheet {
             make,
             chart: self.chart.unwrap_or(ChartName::Head),

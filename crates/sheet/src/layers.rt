@@ -1,17 +1,13 @@
 // The layers of a pile.
 ghost use Rattle.std.specs.Prelude.{◌≡◌, ◌≤◌, cond, length, None, Some, vec_items, vec_len, nat_lt, option_map};
 
-// A port that stands on another port.
-#[derive(Debug, Clone, Copy, PartialEq, Eq)]
-pub enum Layer {
-    Keeper,
-    Deferral,
-}
+use calls::Layer;
 
-// The most layers of a pile.
+/// The most layers of a pile.
 pub const MOST_LAYERS: usize = 3;
 
-// The layers of a pile over paging, from the bottom up. Not a list, since a pile of more is not to be had.
+/// The layers of a pile over paging, from the bottom up. Not a list, since a pile of more is not to
+/// be had.
 #[derive(Debug, PartialEq, Eq, Drop)]
 pub struct Layers {
     pub(crate) layers: Vec<Layer>,
@@ -19,7 +15,7 @@ pub struct Layers {
 }
 
 impl Layers {
-    // None where they are too many.
+    /// None where they are too many.
     pub fn new(layers: Vec<Layer>) -> Option<Layers>
         ensures { option_map (λ l. vec_items l.layers) result ≡ cond (nat_lt 3 (vec_len layers)) None (Some (vec_items layers)) }
     {
@@ -29,6 +25,7 @@ impl Layers {
         Some(Layers { layers })
     }
 
+    /// From the bottom up.
     pub fn as_slice(&self) -> &[Layer]
         ensures value { result.now ≡ vec_items self.now.layers }
         ensures few { length result.now ≤ 3 }

@@ -12,6 +12,9 @@
 //     put RAW WORD ..
 //     read REGISTER                         on a pile
 //     update REGISTER MASK BITS
+//     sync
+//     suspend                               each has its resume further down, before the next one
+//     resume
 //     measure REGISTER WORD                 on either
 //     down
 //     up
@@ -28,11 +31,11 @@ ghost use Rattle.std.specs.Prelude.{◌≡◌};
 ghost use Rattle.sheet.specs.Sheets.{job_of, no_calls, at_line, sheet_of, Reads};
 ghost use Rattle.sheet.specs.declared.LineError.TheVariants.{Memory, Wrong};
 
-pub use calls::{Call, PortCall};
+pub use calls::{Call, Layer, PileCall, PortCall};
 use cut::Lines;
 pub use digits::number;
 use draft::Draft;
-pub use layers::{Layer, Layers};
+pub use layers::Layers;
 use std::alloc::{AllocError, AllocFailed, Global};
 use thiserror::Error;
 
@@ -42,26 +45,28 @@ mod draft;
 mod layers;
 mod line;
 
-// How the chip is reached: at an address of the bus, or through a window of memory.
+/// How the chip is reached: at an address of the bus, or through a window of memory.
 #[derive(Clone, Copy, Debug, PartialEq, Eq)]
 pub enum Make {
     I2c(u16),
     Window,
 }
 
+/// Which chip's registers a sheet speaks of.
 #[derive(Clone, Copy, Debug, PartialEq, Eq)]
 pub enum ChartName {
     Head,
     Valve,
 }
 
-// The calls of a sheet, by what they are performed on: a bus alone, or a pile, which has its layers from the bottom up.
+/// The calls of a sheet, by what they are performed on: a bus alone, or a pile, which has its
+/// layers from the bottom up.
 #[derive(Debug, PartialEq, Eq, Drop)]
 pub enum Calls {
     Bus(Vec<Call>),
     Pile {
         layers: Layers,
-        calls: Vec<PortCall>,
+        calls: Vec<PileCall>,
     },
 }
 
@@ -76,6 +81,7 @@ impl Calls {
     }
 }
 
+/// What is wrong with a line, or with a sheet that ends before it.
 #[derive(Clone, Copy, Debug, PartialEq, Eq, Error)]
 pub enum Mistake {
     #[error("unknown statement")]
@@ -110,8 +116,15 @@ pub enum Mistake {
     UnderPile,
     #[error("marks together with a window")]
     MarksOnWindow,
+    #[error("a second suspend before a resume")]
+    SecondSuspend,
+    #[error("no suspend before this")]
+    NoSuspend,
+    #[error("a suspend that no resume ends")]
+    NoResume,
 }
 
+/// What a sheet asks for.
 #[derive(Debug, PartialEq, Eq, Drop)]
 pub struct Sheet {
     pub make: Make,
@@ -120,7 +133,7 @@ pub struct Sheet {
     pub calls: Calls,
 }
 
-// Why a sheet is not taken. Lines are numbered from 1.
+/// Why a sheet is not taken. Lines are numbered from 1.
 #[derive(Debug, PartialEq, Eq, Drop, Error)]
 pub enum Fault {
     #[error("out of memory")]
@@ -172,7 +185,8 @@ impl LineError {
     }
 }
 
-// Reads a sheet line by line, up to its first mistake.
+/// Reads a sheet line by line, up to its first mistake, which it tells by its line. A mistake of
+/// the sheet as a whole is told at the line after its last.
 #[tactic(auto, using(crate::proofs::Cutting::few_lines))]
 pub fn read(heap: Global, text: &[u8]) -> Result<Sheet, Fault>
     ensures { Reads result (sheet_of text.now) }

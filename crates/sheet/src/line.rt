@@ -2,12 +2,12 @@
 ghost use Rattle.std.specs.Prelude.{◌≡◌, ℕ, cond, List, Result, length, vec_items};
 ghost use Rattle.calls.specs.Asked.{asked};
 ghost use Rattle.sheet.specs.Sheets.{listed};
-ghost use Rattle.sheet.specs.Said.{Gives, exactly, all_of, only_on_pile, call_named, port_call_named, bus_of, chart_of, marks_of, layer_of, pile_of, put_of, number_of, mark_of};
+ghost use Rattle.sheet.specs.Said.{Gives, exactly, all_of, only_on_pile, call_named, port_call_named, pile_call_named, bus_of, chart_of, marks_of, layer_of, pile_of, put_of, number_of, mark_of};
 
 use crate::cut::Words;
 use crate::digits::number;
 use crate::layers::MOST_LAYERS;
-use crate::{Call, ChartName, Layer, Layers, LineError, Make, Mistake, PortCall};
+use crate::{Call, ChartName, Layer, Layers, LineError, Make, Mistake, PileCall, PortCall};
 use std::alloc::Global;
 
 fn a_number(word: &[u8]) -> Result<u16, Mistake>
@@ -147,7 +147,7 @@ fn stray(name: &[u8]) -> Mistake
     ensures { result ≡ cond (only_on_pile name.now) Mistake.NoPile Mistake.UnknownStatement }
 {
     match name {
-        b"read" | b"update" => Mistake::NoPile,
+        b"read" | b"update" | b"sync" | b"suspend" | b"resume" => Mistake::NoPile,
         _ => Mistake::UnknownStatement,
     }
 }
@@ -179,9 +179,9 @@ pub fn read_call(heap: Global, name: &[u8], words: Words) -> Result<Call, LineEr
     }
 }
 
-// The call on a pile that a name begins.
+// The call on the port of a pile that a name begins.
 #[tactic(auto, using(crate::proofs::Naming::names))]
-pub fn read_port_call(name: &[u8], words: Words) -> Result<PortCall, Mistake>
+fn read_port_call(name: &[u8], words: Words) -> Result<PortCall, Mistake>
     ensures { result ≡ port_call_named name.now words.entry }
 {
     match name {
@@ -197,6 +197,10 @@ pub fn read_port_call(name: &[u8], words: Words) -> Result<PortCall, Mistake>
                 bits,
             })
         }
+        b"sync" => {
+            let [] = numbers::<0>(words)?;
+            Ok(PortCall::Sync)
+        }
         b"measure" => {
             let [register, word] = numbers::<2>(words)?;
             Ok(PortCall::Measure { register, word })
@@ -211,5 +215,23 @@ pub fn read_port_call(name: &[u8], words: Words) -> Result<PortCall, Mistake>
         }
         b"get" | b"put" => Err(Mistake::UnderPile),
         _ => Err(Mistake::UnknownStatement),
+    }
+}
+
+// The call on a pile that a name begins.
+#[tactic(auto, using(crate::proofs::Naming::names))]
+pub fn read_pile_call(name: &[u8], words: Words) -> Result<PileCall, Mistake>
+    ensures { result ≡ pile_call_named name.now words.entry }
+{
+    match name {
+        b"suspend" => {
+            let [] = numbers::<0>(words)?;
+            Ok(PileCall::Suspend)
+        }
+        b"resume" => {
+            let [] = numbers::<0>(words)?;
+            Ok(PileCall::Resume)
+        }
+        _ => Ok(PileCall::Port(read_port_call(name, words)?)),
     }
 }

@@ -241,6 +241,7 @@ read 20
   S 54 A 11 A 00 A 11 A P
   S 54 A 01 A 00 A 01 A 00 A 02 A 00 A 03 A 00 A 04 A 00 A 05 A 00 A 06 A 00 A 07 A 00 A 08 A 00 A 09 A 00 A 0A A 00 A 0B A 00 A 0C A 00 A 0D A 00 A 0E A 00 A 0F A 00 A 10 A P
   S 54 A 14 A Sr 55 A 00 A 00 N P
+  under 1=0x0001 2=0x0002 3=0x0003 4=0x0004 5=0x0005 6=0x0006 7=0x0007 8=0x0008 9=0x0009 10=0x000A 11=0x000B 12=0x000C 13=0x000D 14=0x000E 15=0x000F 16=0x0010 17=0x0011
 calls 23, failed transfers 0
 ";
     shows(&rt, rt.alloc(), text, expected)
@@ -267,6 +268,7 @@ read 64
 2 read 20: 0x0000
   S 54 A 01 A 00 A 07 A P
   S 54 A 14 A Sr 55 A 00 A 00 N P
+  under 1=0x0007
 3 update 2 0xFFFF 0x0009: ok
 4 update 64 0x00FF 0x0012: ok
 5 down: ok
@@ -278,6 +280,7 @@ read 64
   S 54 A 00 A 00 A 01 A P
   S 54 A 20 A 00 A 12 A 00 A 34 A P
   S 54 A 14 A Sr 55 A 00 A 00 N P
+  under 1=0x0007 2=0x0009 64=0x0012 65=0x0034
 10 read 64: 0x0012
 calls 10, failed transfers 0
 ";
@@ -351,6 +354,7 @@ read 20
 4 read 20: 0x0000
   S 54 A 01 A 00 A 07 A 00 A 09 A P
   S 54 A 14 A Sr 55 A 00 A 00 N P
+  under 1=0x0007 2=0x0009
 5 update 3 0xFFFF 0x0005: ok
 6 down: ok
 7 update 2 0xFF00 0x0100: ok
@@ -360,6 +364,7 @@ read 20
 11 read 20: 0x0000
   S 54 A 01 A 00 A 07 A 01 A 09 A 00 A 05 A P
   S 54 A 14 A Sr 55 A 00 A 00 N P
+  under 1=0x0007 2=0x0109 3=0x0005
 calls 11, failed transfers 0
 ";
     shows(&rt, rt.alloc(), text, expected)
@@ -450,6 +455,7 @@ read 20
   S 54 A 01 A 00 A 01 A 00 A 02 A 00 A 03 A 00 A 04 A 00 A 05 A 00 A 06 A 00 A 07 A 00 A 08 A 00 A 09 A 00 A 0A A 00 A 0B A 00 A 0C A 00 A 0D A 00 A 0E A 00 A 0F A 00 A 10 A P
   S 54 A 11 A 00 A 11 A P
   S 54 A 14 A Sr 55 A 00 A 00 N P
+  under 1=0x0001 2=0x0002 3=0x0003 4=0x0004 5=0x0005 6=0x0006 7=0x0007 8=0x0008 9=0x0009 10=0x000A 11=0x000B 12=0x000C 13=0x000D 14=0x000E 15=0x000F 16=0x0010 17=0x0011
 calls 21, failed transfers 1
 ";
     shows(&rt, rt.alloc(), text, expected)
@@ -481,6 +487,7 @@ read 20
   S 54 A 01 A 00 A 07 A P
   S 54 A 02 A 00 A 09 A P
   S 54 A 14 A Sr 55 A 00 A 00 N P
+  under 1=0x0007 2=0x0009
 calls 7, failed transfers 1
 ";
     shows(&rt, rt.alloc(), text, expected)

@@ -31,8 +31,10 @@ read 1
   S 54 A 00 A 00 A 01 A P
   S 54 A 20 A 00 A 12 A P
   S 54 A 14 A Sr 55 A 0A A BC N P
+  under 1=0x0007 2=0x0009 64=0x0012
 9 read 20: 0x0ABC
   S 54 A 14 A Sr 55 A 0A A BC N P
+  under 1=0x0007 2=0x0009 64=0x0012
 10 read 1: 0x0007
 calls 10, failed transfers 0
 ";
@@ -71,6 +73,7 @@ read 20
   S 54 A 14 A Sr 55 N P
 9 read 20: 0x0000
   S 54 A 14 A Sr 55 A 00 A 00 N P
+  under 1=0x0007 5=0x0009 6=0x000A 32=0x000B
 calls 9, failed transfers 2
 ";
     shows(&rt, rt.alloc(), text, expected)
@@ -102,6 +105,7 @@ read 96
 7 up: ok
 8 read 20: 0x0000
   S 54 A 14 A Sr 55 A 00 A 00 N P
+  under reset settings
 9 read 1: 0x0000
 10 read 96: 0xFFFF
 calls 10, failed transfers 0
@@ -131,6 +135,7 @@ read 20
 6 update 2 0x0000 0x0005: ok
 7 read 20: 0x0000
   S 54 A 14 A Sr 55 A 00 A 00 N P
+  under 1=0x0007
 calls 7, failed transfers 0
 ";
     shows(&rt, rt.alloc(), text, expected)
@@ -215,6 +220,7 @@ read 112
   S 54 A 2E A 00 A 11 A P
   S 54 A 00 A 00 A 02 A P
   S 54 A 30 A Sr 55 A 00 A 00 N P
+  under 62=0x0001 63=0x0002 64=0x0003 65=0x0004 66=0x0005 67=0x0006 68=0x0007 69=0x0008 70=0x0009 71=0x000A 72=0x000B 73=0x000C 74=0x000D 75=0x000E 76=0x000F 77=0x0010 78=0x0011
 calls 20, failed transfers 0
 ";
     shows(&rt, rt.alloc(), text, expected)
@@ -245,6 +251,7 @@ read 20
 7 read 20: 0x0000
   S 54 A 01 A 00 A 07 A 00 A 09 A P
   S 54 A 14 A Sr 55 A 00 A 00 N P
+  under 1=0x0007 2=0x0009
 calls 7, failed transfers 1
 ";
     shows(&rt, rt.alloc(), text, expected)
@@ -275,6 +282,7 @@ read 2
     let expected = "1 update 1 0xFFFF 0x0005: ok
 2 measure 16 0x0123: ok
 3 read 16: 0x0123
+  under 1=0x0005
 4 down: ok
 5 read 1: 0x0005
 6 read 16: refused 5 asleep
@@ -286,6 +294,7 @@ read 2
 12 read 2: 0x000F
 13 up: ok
 14 read 16: 0x0000
+  under 1=0x0005 2=0x000F
 15 read 2: 0x000F
 calls 15, failed transfers 0
 ";

@@ -8,6 +8,8 @@ mod keepers;
 #[cfg(test)]
 mod mistakes;
 #[cfg(test)]
-mod piles;
+mod paging_alone;
+#[cfg(test)]
+mod rests;
 #[cfg(test)]
 mod transcripts;

@@ -1,4 +1,6 @@
-use sheet::{Call, Calls, ChartName, Fault, Layer, Layers, Make, Mistake, PortCall, Sheet, read};
+use sheet::{
+    Call, Calls, ChartName, Fault, Layer, Layers, Make, Mistake, PileCall, PortCall, Sheet, read,
+};
 use std::alloc::Global;
 use std::process::Abort;
 use std::test::Fail;
@@ -40,25 +42,44 @@ fn reads_every_statement(rt: HostRuntime) -> Result<(), Fail> {
 #[test]
 fn reads_every_statement_of_a_pile(rt: HostRuntime) -> Result<(), Fail> {
     let heap = rt.alloc();
-    let text =
-        b"pile  paging keeper\tdeferral keeper # as many as there may be\nbus window\nread 64\nupdate 0x41 255 0x00aA\nmeasure 112 7\ndown\nup\n";
+    let text = b"pile  paging keeper\tdeferral keeper # as many as there may be
+bus window
+read 64
+suspend
+update 0x41 255 0x00aA
+resume
+sync
+measure 112 7
+down
+suspend
+resume # asleep before, awake after
+up
+";
     let three = vec![in heap; Layer::Keeper, Layer::Deferral, Layer::Keeper]?;
     let Some(layers) = Layers::new(three) else {
         panic!(rt; "three layers are too many");
     };
+    let read_64 = PortCall::Read { register: 64 };
+    let update_65 = PortCall::Update {
+        register: 65,
+        mask: 255,
+        bits: 170,
+    };
+    let measure_112 = PortCall::Measure {
+        register: 112,
+        word: 7,
+    };
     let calls = vec![in heap;
-        PortCall::Read { register: 64 },
-        PortCall::Update {
-            register: 65,
-            mask: 255,
-            bits: 170
-        },
-        PortCall::Measure {
-            register: 112,
-            word: 7
-        },
-        PortCall::Down,
-        PortCall::Up,
+        PileCall::Port(read_64),
+        PileCall::Suspend,
+        PileCall::Port(update_65),
+        PileCall::Resume,
+        PileCall::Port(PortCall::Sync),
+        PileCall::Port(measure_112),
+        PileCall::Port(PortCall::Down),
+        PileCall::Suspend,
+        PileCall::Resume,
+        PileCall::Port(PortCall::Up),
     ]?;
     assert_eq!(rt;
         read(heap, text)?,
@@ -263,6 +284,80 @@ fn tells_wrong_piles(rt: HostRuntime) {
     is_wrong(&rt, heap, b"pile paging\n", 2, Mistake::NoBus);
 }
 
+// A suspend and a resume take turns, whatever else stands between them, and the last is a resume.
+#[test]
+fn tells_wrong_rests(rt: HostRuntime) {
+    let heap = rt.alloc();
+    is_wrong(&rt, heap, b"bus window\nsync", 2, Mistake::NoPile);
+    is_wrong(&rt, heap, b"bus window\nsuspend 1", 2, Mistake::NoPile);
+    is_wrong(&rt, heap, b"bus window\nresume", 2, Mistake::NoPile);
+    is_wrong(
+        &rt,
+        heap,
+        b"bus window\npile paging\nsync 1",
+        3,
+        Mistake::WordCount,
+    );
+    is_wrong(
+        &rt,
+        heap,
+        b"bus window\npile paging\nresume now",
+        3,
+        Mistake::WordCount,
+    );
+    is_wrong(
+        &rt,
+        heap,
+        b"bus window\npile paging\nsuspend\nsuspend 0",
+        4,
+        Mistake::WordCount,
+    );
+    is_wrong(
+        &rt,
+        heap,
+        b"bus window\npile paging\nSuspend",
+        3,
+        Mistake::UnknownStatement,
+    );
+    is_wrong(
+        &rt,
+        heap,
+        b"bus window\npile paging\nsuspend\nup\nsuspend\nresume",
+        5,
+        Mistake::SecondSuspend,
+    );
+    is_wrong(
+        &rt,
+        heap,
+        b"bus window\npile paging\ndown\nresume",
+        4,
+        Mistake::NoSuspend,
+    );
+    is_wrong(
+        &rt,
+        heap,
+        b"bus window\npile paging\nsuspend\nresume\nresume",
+        5,
+        Mistake::NoSuspend,
+    );
+    is_wrong(
+        &rt,
+        heap,
+        b"bus window\npile paging\nsuspend\nup\nsync",
+        6,
+        Mistake::NoResume,
+    );
+    is_wrong(
+        &rt,
+        heap,
+        b"bus window\npile paging\nsuspend\nresume\nsuspend\n\n# the end\n",
+        8,
+        Mistake::NoResume,
+    );
+    is_wrong(&rt, heap, b"pile paging\nsuspend", 2, Mistake::NoBus);
+    is_wrong(&rt, heap, b"pile paging\nresume", 2, Mistake::NoBus);
+}
+
 fn prints(rt: &impl Abort, heap: Global, mistake: Mistake, expected: &str) -> Result<(), Fail> {
     let fault = Fault::Wrong { line: 12, mistake };
     assert_eq!(rt; format!(in heap; "{fault}")?.as_str(), expected);
@@ -288,7 +383,10 @@ fn says_what_is_wrong(rt: HostRuntime) -> Result<(), Fail> {
     prints(&rt, heap, Mistake::NoBus, "line 12: no bus line before this")?;
     prints(&rt, heap, Mistake::NoPile, "line 12: no pile line before this")?;
     prints(&rt, heap, Mistake::UnderPile, "line 12: a call on the bus under a pile")?;
-    prints(&rt, heap, Mistake::MarksOnWindow, "line 12: marks together with a window")
+    prints(&rt, heap, Mistake::MarksOnWindow, "line 12: marks together with a window")?;
+    prints(&rt, heap, Mistake::SecondSuspend, "line 12: a second suspend before a resume")?;
+    prints(&rt, heap, Mistake::NoSuspend, "line 12: no suspend before this")?;
+    prints(&rt, heap, Mistake::NoResume, "line 12: a suspend that no resume ends")
 }
 
 #[test]

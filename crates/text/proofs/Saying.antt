@@ -1,21 +1,40 @@
 -- What is printed is the text that is promised. Assumes nothing.
-use Rattle.std.proofs.Common.{◌≡◌, ℕ, min, ◌⊎◌, inl, inr, List, [], ◌∷◌, ◌++◌, map, length, refl, arith}
+use Rattle.std.proofs.Common.{◌≡◌, ℕ, min, ◌⊎◌, inl, inr, List, [], ◌∷◌, ◌++◌, map, length, refl}
+use Rattle.std.proofs.Common.{arith}
 use lib.ListN.{length-map}
+use Rattle.chart.specs.Replies.{Reply}
 use Rattle.i2c_target.specs.Traces.{Traced}
 use Rattle.i2c_target.specs.declared.event.Event.{Event}
 use Rattle.perform.specs.Performed.{Seen}
+use Rattle.text.specs.Noting.{shown_lines}
 use Rattle.text.specs.Texts.{calls_lines, full_text, tally_text, transcript_text}
 
-nothing_seen : (es : List Event) (number passed : ℕ) (cs : List (List ℕ)) → calls_lines es number passed cs [] ≡ []
-nothing_seen es number passed [] = refl
-nothing_seen es number passed (c ∷ cs) = refl
+module _ {C S : Type 0} (text : C → List ℕ) (next : S → C → Reply → S) (told : S → List ℕ) where
+  nothing_seen : (s : S) (cs : List C) → shown_lines text next told s cs [] ≡ []
+  nothing_seen s [] = refl
+  nothing_seen s (c ∷ cs) = refl
 
--- where no call is left, or none of what was seen, no line is
-pub nothing_left : {C O : Type 0} (text : C → List ℕ) (seen : O → Seen) (es : List Event) (number passed : ℕ) (cs : List C) (os : List O) → (cs ≡ []) ⊎ (os ≡ []) → calls_lines es number passed (map text cs) (map seen os) ≡ []
-nothing_left text seen es number passed cs os (inl e) = rw e refl
-nothing_left text seen es number passed cs os (inr e) = rw e (nothing_seen es number passed (map text cs))
+  -- where no call is left, or none of what was seen, no line is
+  pub nothing_left : {O : Type 0} (s : S) (seen : O → Seen) (es : List Event) (number passed : ℕ)
+      (cs : List C) (os : List O) → (cs ≡ []) ⊎ (os ≡ [])
+      → calls_lines es number passed (shown_lines text next told s cs (map seen os)) ≡ []
+  nothing_left s seen es number passed cs os (inl e) = rw e refl
+  nothing_left s seen es number passed cs os (inr e) = rw (e, nothing_seen s cs) refl
 
--- the whole, where each of its parts is known by another name
-pub whole : {C O : Type 0} (text : C → List ℕ) (seen : O → Seen) (trace : Traced) (failed n count : ℕ) (cs : List C) (os : List O) (es : List Event) (note : List ℕ) → es ≡ trace.events → note ≡ full_text trace.overrun → n ≡ min (length cs) (length os) → count ≡ failed
-    → calls_lines es 0 0 (map text cs) (map seen os) ++ (note ++ tally_text n count) ≡ transcript_text trace failed (map text cs) (map seen os)
-whole text seen trace failed n count cs os es note e f m h = rw (e, f, m, h, length-map cs text, length-map os seen) (grind arith)
+  -- a line for each call of which something was seen
+  pub line_count : (s : S) (cs : List C) (xs : List Seen)
+      → length (shown_lines text next told s cs xs) ≡ min (length cs) (length xs)
+  line_count s [] xs = grind arith
+  line_count s (c ∷ cs) [] = grind arith
+  line_count s (c ∷ cs) (x ∷ xs) = rw (line_count (next s c x.reply) cs xs) (omega arith)
+
+  -- the whole, where each of its parts is known by another name
+  pub whole : {O : Type 0} (s : S) (seen : O → Seen) (trace : Traced) (failed n count : ℕ)
+      (cs : List C) (os : List O) (es : List Event) (note : List ℕ)
+      → es ≡ trace.events → note ≡ full_text trace.overrun → n ≡ min (length cs) (length os)
+      → count ≡ failed
+      → calls_lines es 0 0 (shown_lines text next told s cs (map seen os))
+      ++ (note ++ tally_text n count)
+      ≡ transcript_text trace failed (shown_lines text next told s cs (map seen os))
+  whole s seen trace failed n count cs os es note e f m h =
+      rw (e, f, m, h, line_count s cs (map seen os), length-map os seen) refl

@@ -1,1 +1,3 @@
 pub mod Texts
+pub mod Noting
+pub mod Under

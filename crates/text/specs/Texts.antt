@@ -1,8 +1,8 @@
 -- The transcript as bytes. Assumes nothing.
-use Rattle.std.specs.Prelude.{ℕ, ◌+◌, ◌-◌, min, Bool, true, false, cond, List, [], ◌∷◌, ◌++◌, length, take, drop, codes, decimal, ◌==◌, nat_le}
+use Rattle.std.specs.Prelude.{ℕ, ◌+◌, ◌-◌, Bool, true, false, cond, List, [], ◌∷◌, ◌++◌, length}
+use Rattle.std.specs.Prelude.{take, drop, codes, decimal, ◌==◌, nat_le}
 use Rattle.chart.specs.Names.{refusal_text}
 use Rattle.chart.specs.Replies.{Reply}
-use Rattle.perform.specs.Performed.{Seen}
 use Rattle.calls.specs.Texts.{byte_text, word_text}
 use Rattle.i2c_target.specs.Traces.{Traced}
 use Rattle.i2c_target.specs.declared.event.Event.{Event}
@@ -46,15 +46,27 @@ events_text begun (e ∷ es) = event_text begun e ++ events_text (goes_on e) es
 abbrev pub events_between : ℕ → ℕ → List Event → List Event
 events_between from to es = cond (nat_le from to) (cond (nat_le to (length es)) (take (to - from) (drop from es)) []) []
 
--- one call by its text, its reply, and the transfers that it made
-abbrev pub call_lines : ℕ → List ℕ → Reply → List Event → List ℕ
-call_lines number c r es = (decimal number ++ codes " ") ++ (c ++ (codes ": " ++ (reply_text r ++ (line_end ++ events_text false es))))
+-- A call as it is shown: its text and its reply, how many events had passed on the wire when it was
+-- over, and what is told under its transfers.
+pub record Line : Type 0 where
+  pub call : List ℕ
+  pub reply : Reply
+  pub passed : ℕ
+  pub under : List ℕ
 
--- the calls with what was seen of them, numbered on after the given number; passed says how many of the events are earlier calls'
-abbrev pub calls_lines : List Event → ℕ → ℕ → List (List ℕ) → List Seen → List ℕ
-calls_lines es number passed [] ss = []
-calls_lines es number passed (c ∷ cs) [] = []
-calls_lines es number passed (c ∷ cs) (s ∷ ss) = call_lines (number + 1) c s.reply (events_between passed s.passed es) ++ calls_lines es (number + 1) s.passed cs ss
+-- one call, with the transfers that it made
+abbrev pub call_lines : ℕ → List Event → Line → List ℕ
+call_lines number es l =
+    (decimal number ++ codes " ")
+    ++ (l.call
+    ++ (codes ": " ++ (reply_text l.reply ++ (line_end ++ (events_text false es ++ l.under)))))
+
+-- calls numbered on after the given number; passed says how many of the events are earlier calls'
+abbrev pub calls_lines : List Event → ℕ → ℕ → List Line → List ℕ
+calls_lines es number passed [] = []
+calls_lines es number passed (l ∷ ls) =
+    call_lines (number + 1) (events_between passed l.passed es) l
+    ++ calls_lines es (number + 1) l.passed ls
 
 abbrev pub full_text : Bool → List ℕ
 full_text true = codes "frames left out: the trace is full" ++ line_end
@@ -64,9 +76,10 @@ full_text false = []
 abbrev pub tally_text : ℕ → ℕ → List ℕ
 tally_text count failed = codes "calls " ++ (decimal count ++ (codes ", failed transfers " ++ (decimal failed ++ line_end)))
 
--- the whole: what passed on the wire, how many transfers failed, the texts of the calls and what was seen of them
-abbrev pub transcript_text : Traced → ℕ → List (List ℕ) → List Seen → List ℕ
-transcript_text trace failed cs ss = calls_lines trace.events 0 0 cs ss ++ (full_text trace.overrun ++ tally_text (min (length cs) (length ss)) failed)
+-- the whole: what passed on the wire, how many transfers failed, and the calls
+abbrev pub transcript_text : Traced → ℕ → List Line → List ℕ
+transcript_text trace failed ls =
+    calls_lines trace.events 0 0 ls ++ (full_text trace.overrun ++ tally_text (length ls) failed)
 
 -- the whole where no bus is made
 abbrev pub unmade_text : Reply → List ℕ

@@ -1,3 +1,5 @@
 #![tactic(auto)]
 
+pub mod notes;
 pub mod text;
+pub mod under;

@@ -2,8 +2,12 @@
 ghost use Rattle.std.specs.Prelude.{◌≡◌, false, map, IfOk, Some, string_bytes};
 ghost use Rattle.chart.specs.Replies.{told, failure_values};
 ghost use Rattle.perform.specs.Performed.{answer_reply, seen};
-ghost use Rattle.text.specs.Texts.{reply_text, event_text, goes_on, events_text, events_between, call_lines, calls_lines, full_text, transcript_text, unmade_text};
+ghost use Rattle.text.specs.Texts.{reply_text, event_text, goes_on, events_text, events_between};
+ghost use Rattle.text.specs.Texts.{call_lines, calls_lines, full_text, transcript_text};
+ghost use Rattle.text.specs.Texts.{unmade_text};
+ghost use Rattle.text.specs.Noting.{shown_lines};
 
+use crate::notes::Notes;
 use bus::bus::Bus;
 use calls::{Prints, Word};
 use chart::refusal::{Failure, Refusal, Tells};
@@ -94,17 +98,23 @@ fn between(events: &[Event], from: usize, to: usize) -> &[Event]
     events.get(from..to).unwrap_or(&[])
 }
 
-// A call, its answer, and the transfers that it made.
+// A call, its answer, the transfers that it made, and what is told under them.
 #[derive(Clone, Copy)]
-struct Entry<'a, C, F> {
+struct Entry<'a, C, F, N> {
     number: usize,
     call: &'a C,
     answer: Answer<F>,
     events: &'a [Event],
+    notes: N,
 }
 
-impl<C: Prints, F: Tells + Copy> fmt::Display for Entry<'_, C, F> {
-    ghost output = { λ x. Some (call_lines x.number (C.text x.call.now) (answer_reply F.Tells.values x.answer) x.events.now) };
+impl<C: Prints, F: Tells + Copy, N: Notes<C, F>> fmt::Display for Entry<'_, C, F, N> {
+    ghost output = { λ x. Some (call_lines x.number x.events.now (record {
+      call = C.text x.call.now;
+      reply = answer_reply F.Tells.values x.answer;
+      passed = 0;
+      under = N.told (N.state x.notes);
+    })) };
 
     fn fmt<W: fmt::Write>(&self, f: &mut fmt::Formatter<W>) -> fmt::Result {
         let number = self.number;
@@ -115,29 +125,37 @@ impl<C: Prints, F: Tells + Copy> fmt::Display for Entry<'_, C, F> {
         let frames = Frames {
             events: self.events,
         };
-        write!(f, "{number} {call}: {reply}\n{frames}")
+        let notes = self.notes;
+        write!(f, "{number} {call}: {reply}\n{frames}{notes}")
     }
 }
 
 // All calls, numbered from 1, over the events that passed for them.
 #[derive(Clone, Copy)]
-struct Entries<'a, C, F> {
+struct Entries<'a, C, F, N> {
     events: &'a [Event],
     calls: &'a [C],
     outcomes: &'a [Outcome<F>],
+    notes: N,
 }
 
-impl<C: Prints, F: Tells + Copy> fmt::Display for Entries<'_, C, F> {
-    ghost output = { λ x. Some (calls_lines x.events.now 0 0 (map C.text x.calls.now) (map (seen F.Tells.values) x.outcomes.now)) };
+impl<C: Prints, F: Tells + Copy, N: Notes<C, F>> fmt::Display for Entries<'_, C, F, N> {
+    ghost output = { λ x. let calls = x.calls.now in
+        let outcomes = map (seen F.Tells.values) x.outcomes.now in
+        let lines = shown_lines C.text N.next N.told (N.state x.notes) calls outcomes in
+        Some (calls_lines x.events.now 0 0 lines) };
 
     fn fmt<W: fmt::Write>(&self, f: &mut fmt::Formatter<W>) -> fmt::Result {
         let mut passed = 0;
+        let mut notes = self.notes;
         for (before, (call, outcome)) in self.calls.iter().zip(self.outcomes).enumerate() {
+            notes = notes.next(call, outcome.answer);
             let entry = Entry {
                 number: before + 1,
                 call,
                 answer: outcome.answer,
                 events: between(self.events, passed, outcome.passed),
+                notes,
             };
             write!(f, "{entry}")?;
             passed = outcome.passed;
@@ -159,20 +177,27 @@ fn note(overrun: bool) -> &'static str
 
 // What calls answered on a bus, and what passed on its wire for each.
 #[derive(Drop)]
-struct Transcript<'a, B, C, F> {
+struct Transcript<'a, B, C, F, N> {
     bus: &'a B,
     calls: &'a [C],
     outcomes: &'a [Outcome<F>],
+    notes: N,
 }
 
-impl<B: Bus, C: Prints, F: Tells + Copy> fmt::Display for Transcript<'_, B, C, F> {
-    ghost output = { λ x. Some (transcript_text (B.Bus.trace (B.Bus.model x.bus.now)) (B.Bus.chip (B.Bus.model x.bus.now)).failed (map C.text x.calls.now) (map (seen F.Tells.values) x.outcomes.now)) };
+impl<B: Bus, C: Prints, F: Tells + Copy, N: Notes<C, F>> fmt::Display
+    for Transcript<'_, B, C, F, N> {
+    ghost output = { λ x. let calls = x.calls.now in
+        let outcomes = map (seen F.Tells.values) x.outcomes.now in
+        let lines = shown_lines C.text N.next N.told (N.state x.notes) calls outcomes in
+        let bus = B.Bus.model x.bus.now in
+        Some (transcript_text (B.Bus.trace bus) (B.Bus.chip bus).failed lines) };
 
     fn fmt<W: fmt::Write>(&self, f: &mut fmt::Formatter<W>) -> fmt::Result {
         let entries = Entries {
             events: self.bus.events(),
             calls: self.calls,
             outcomes: self.outcomes,
+            notes: self.notes,
         };
         let note = note(self.bus.overrun());
         let calls = self.calls.len().min(self.outcomes.len());
@@ -181,25 +206,33 @@ impl<B: Bus, C: Prints, F: Tells + Copy> fmt::Display for Transcript<'_, B, C, F
     }
 }
 
-// What the calls answered, and what passed for each. The calls of a pile are shown over the bus at its bottom.
+/// What the calls answered, what passed for each, and what `notes` tells under it. The calls of a
+/// pile are shown over the bus at its bottom. Fails only where there is no memory for the text.
 // The two lists stay two: outcomes that name their calls would borrow them, which asks more of callers.
-pub fn written<B: Bus, C: Prints, F: Tells + Copy>(
+pub fn written<B: Bus, C: Prints, F: Tells + Copy, N: Notes<C, F>>(
     heap: Global,
     bus: &B,
     calls: &[C],
     outcomes: &[Outcome<F>],
+    notes: N,
 ) -> Result<String, AllocError>
-    ensures { IfOk result (λ t. string_bytes t ≡ transcript_text (B.Bus.trace (B.Bus.model bus.now)) (B.Bus.chip (B.Bus.model bus.now)).failed (map C.text calls.now) (map (seen F.Tells.values) outcomes.now)) }
+    ensures { let seen = map (seen F.Tells.values) outcomes.now in
+        let lines = shown_lines C.text N.next N.told (N.state notes) calls.now seen in
+        let trace = B.Bus.trace (B.Bus.model bus.now) in
+        let failed = (B.Bus.chip (B.Bus.model bus.now)).failed in
+        IfOk result (λ t. string_bytes t ≡ transcript_text trace failed lines) }
 {
     let transcript = Transcript {
         bus,
         calls,
         outcomes,
+        notes,
     };
     Ok(format!(in heap; "{transcript}")?)
 }
 
-// The whole answer where no bus is made.
+/// The whole answer where no bus is made, for this reason. Fails only where there is no memory for
+/// the text.
 pub fn unmade(heap: Global, refusal: Refusal<Failure>) -> Result<String, AllocError>
     ensures { IfOk result (λ t. string_bytes t ≡ unmade_text (told failure_values refusal)) }
 {

@@ -1,2 +1,4 @@
 mod Telling
 mod Roomy
+mod Dues
+mod Auditing

@@ -10,15 +10,16 @@ use Rattle.port.specs.Meaning.{PortSteps}
 use Rattle.pages.specs.Machine.{paged, paging_steps}
 use Rattle.keeping.specs.Machine.{new_keeper, keeper_steps}
 use Rattle.deferring.specs.Machine.{new_deferral, deferral_steps}
-use Rattle.calls.specs.declared.PortCall.{PortCall}
+use Rattle.calls.specs.declared.PileCall.{PileCall}
 use Rattle.sheet.specs.Sheets.{Job, on_bus, on_pile}
-use Rattle.sheet.specs.declared.layers.Layer.{Layer}
-use Rattle.sheet.specs.declared.layers.Layer.TheVariants.{Keeper, Deferral}
-use Rattle.perform.specs.Performed.{performed, port_performed}
+use Rattle.calls.specs.declared.Layer.{Layer}
+use Rattle.calls.specs.declared.Layer.TheVariants.{Keeper, Deferral}
+use Rattle.perform.specs.Performed.{performed, pile_performed}
 use Rattle.room.specs.Events.{call_events}
-use Rattle.room.specs.Costing.{paging_costs, keeper_costs, deferral_costs, port_call_cost}
+use Rattle.room.specs.Costing.{paging_costs, keeper_costs, deferral_costs, pile_call_cost}
 use Rattle.room.specs.declared.costs.Costs.{Costs}
-use Rattle.room.proofs.Paying.{RoomyBus, RoomyPort, Any, owes_none, walk_pays, port_call_pays, none_out}
+use Rattle.room.proofs.Paying.{RoomyBus, RoomyPort, Any, owes_none}
+use Rattle.room.proofs.Paying.{walk_pays, pile_call_pays, none_out}
 use Rattle.room.proofs.I2cRoomy.{i2c_roomy}
 use Rattle.room.proofs.PagingRoomy.{paging_roomy}
 use Rattle.room.proofs.KeeperRoomy as keeper
@@ -27,11 +28,16 @@ use Rattle.transcript.specs.Told.{pile_shown, job_shown, layers_costs, job_room}
 
 module _ (class : ℕ → Class) (reset : ℕ → ℕ) where
   -- new layers over a port that owes nothing
-  pile_roomy : {M : Type 0} (ls : List Layer) (keeps : Bool) (step : PortSteps M) (trace : M → Traced) (chip : M → Chip) (c : Costs) (left : M → ℕ) (J : M → Type 0) (port : RoomyPort trace left J step c) (cs : List PortCall) (m : M)
-      → J m → left m ≡ 0 → Room (trace m) (sum_by (port_call_cost (layers_costs ls keeps c)) cs) → Room (pile_shown class reset ls keeps step trace chip cs m).trace 0
+  pile_roomy : {M : Type 0} (ls : List Layer) (keeps : Bool) (step : PortSteps M)
+      (trace : M → Traced) (chip : M → Chip) (c : Costs) (left : M → ℕ) (J : M → Type 0)
+      (port : RoomyPort trace left J step c) (cs : List PileCall) (m : M)
+      → J m → left m ≡ 0 → Room (trace m) (sum_by (pile_call_cost (layers_costs ls keeps c)) cs)
+      → Room (pile_shown class reset ls keeps step trace chip cs m).trace 0
   pile_roomy [] keeps step trace chip c left J port cs m j none r =
-      let most = sum_by (port_call_cost c) cs in
-      none_out trace left J most m _ none (walk_pays trace left J (port_performed step) (port_call_cost c) (port_call_pays trace left J step c port) cs m j) r
+      let most = sum_by (pile_call_cost c) cs in
+      let each = pile_call_pays trace left J step c port in
+      let all = walk_pays trace left J (pile_performed step) (pile_call_cost c) each cs m j in
+      none_out trace left J most m _ none all r
   pile_roomy (Keeper ∷ ls) keeps step trace chip c left J port cs m j none r =
       pile_roomy ls true (keeper_steps step chip keeps class reset) (λ k. trace k.below) (λ k. chip k.below) (keeper_costs keeps c)
       (keeper.keeper_left step trace chip keeps class reset c left J port) (keeper.KeeperKept step trace chip keeps class reset c left J port)

@@ -7,8 +7,10 @@ ghost use Rattle.chart.specs.Replies.{told, failure_values};
 ghost use Rattle.calls.specs.Asked.{asked};
 ghost use Rattle.sheet.specs.Sheets.{on_bus, job_of, whole};
 ghost use Rattle.text.specs.Texts.{unmade_text};
+ghost use Rattle.transcript.specs.Audits.{JobAudited, JobFits, SheetAudited};
 ghost use Rattle.transcript.specs.Told.{pile_costs, job_room, played, MakeTells, SheetTells};
 
+use audit::bench::pile_calls_fit;
 use bus::bus::Bus;
 use bus::unmade::Unmade;
 use chart::charts::{Head, Valve};
@@ -22,6 +24,7 @@ use room::costs::Costs;
 use room::events::bus_room;
 use sheet::{Call, Calls, ChartName, Layer, Make, Sheet};
 use std::alloc::{AllocError, Global};
+use text::notes::Nothing;
 use text::text::{unmade, written};
 use window::window::Window;
 
@@ -70,10 +73,15 @@ fn play_on_bus<B: Bus + Drop>(
     mut bus: B,
     calls: &[Call],
 ) -> Result<String, AllocError>
-    ensures { IfOk result (λ t. string_bytes t ≡ played B.Chart.Chart.classed B.Chart.Chart.resets (B.Bus.steps B.Chart.Chart.classed B.Chart.Chart.resets) B.Bus.trace B.Bus.chip (on_bus (map asked calls.now)) (B.Bus.model bus)) }
+    ensures { let chart = B.Chart.Chart in
+        let step = B.Bus.steps chart.classed chart.resets in
+        let job = on_bus (map asked calls.now) in
+        let text = played chart.counted chart.classed chart.resets step B.Bus.trace B.Bus.chip job
+        (B.Bus.model bus) in
+        IfOk result (λ t. string_bytes t ≡ text) }
 {
     let outcomes = perform_all(heap, &mut bus, calls)?;
-    written(heap, &bus, calls, outcomes.as_slice())
+    written(heap, &bus, calls, outcomes.as_slice(), Nothing)
 }
 
 // Performs calls over a bus, where one was made.
@@ -82,7 +90,13 @@ fn play<B: Bus + Drop, T: Drop>(
     made: Result<B, Unmade<T>>,
     calls: &Calls,
 ) -> Result<String, AllocError>
-    ensures { IfOk result (λ t. MatchResult made (λ bus. string_bytes t ≡ played B.Chart.Chart.classed B.Chart.Chart.resets (B.Bus.steps B.Chart.Chart.classed B.Chart.Chart.resets) B.Bus.trace B.Bus.chip (job_of calls.now) (B.Bus.model bus)) (λ e. string_bytes t ≡ unmade_text (told failure_values e.refusal))) }
+    ensures { let chart = B.Chart.Chart in
+        let step = B.Bus.steps chart.classed chart.resets in
+        let text = played chart.counted chart.classed chart.resets step B.Bus.trace B.Bus.chip
+        (job_of calls.now) in
+        IfOk result (λ t. MatchResult made
+        (λ bus. string_bytes t ≡ text (B.Bus.model bus))
+        (λ e. string_bytes t ≡ unmade_text (told failure_values e.refusal))) }
 {
     match (made, calls) {
         (Ok(bus), Calls::Bus(calls)) => play_on_bus(heap, bus, calls.as_slice()),
@@ -93,9 +107,21 @@ fn play<B: Bus + Drop, T: Drop>(
     }
 }
 
+// What their types say of the calls of a sheet, for proofs.
+fn job_fits(calls: &Calls)
+    ensures { JobFits (job_of calls.now) }
+{
+    if let Calls::Pile { calls, .. } = calls {
+        pile_calls_fit(calls.as_slice());
+    }
+}
+
 // Performs a sheet on a new chip of one chart.
 fn play_chart<C: Chart>(heap: Global, sheet: &Sheet) -> Result<String, AllocError>
-    ensures { IfOk result (λ t. MakeTells C.Chart.classed C.Chart.resets sheet.now.make sheet.now.marks.items (job_of sheet.now.calls) (string_bytes t)) }
+    ensures { let chart = C.Chart in
+        let job = job_of sheet.now.calls in
+        IfOk result (λ t. MakeTells chart.counted chart.classed chart.resets sheet.now.make
+        sheet.now.marks.items job (string_bytes t)) }
 {
     match sheet.make {
         Make::I2c(address) => {
@@ -110,12 +136,33 @@ fn play_chart<C: Chart>(heap: Global, sheet: &Sheet) -> Result<String, AllocErro
     }
 }
 
-// The transcript of a whole sheet.
+// The same, as an auditor may rely on it.
+fn audited_chart<C: Chart>(heap: Global, sheet: &Sheet) -> Result<String, AllocError>
+    ensures tells { let chart = C.Chart in
+        let job = job_of sheet.now.calls in
+        IfOk result (λ t. MakeTells chart.counted chart.classed chart.resets sheet.now.make
+        sheet.now.marks.items job (string_bytes t)) }
+    ensures audited { let chart = C.Chart in
+        let job = job_of sheet.now.calls in
+        IfOk result (λ t. JobAudited chart.counted chart.classed chart.resets sheet.now.make
+        sheet.now.marks.items job (string_bytes t)) }
+{
+    job_fits(&sheet.calls);
+    play_chart::<C>(heap, sheet)
+}
+
+/// The transcript of a whole sheet: what each call answered, what passed on the wire for it, and
+/// under a reading the settings that it was made under (docs/RULES.md, section 12). Fails only
+/// where there is no memory for it.
 pub fn transcript(heap: Global, sheet: &Sheet) -> Result<String, AllocError>
-    ensures { IfOk result (λ t. SheetTells (whole sheet.now) (string_bytes t)) }
+    ensures tells { IfOk result (λ t. SheetTells (whole sheet.now) (string_bytes t)) }
+    // On a pile that keeps it is the transcript of an audited run: each reply is that of its
+    // moment, and under a reading stand the words that settings are due then, which the chip has.
+    // On one that does not keep nothing stands under a call.
+    ensures audited { IfOk result (λ t. SheetAudited (whole sheet.now) (string_bytes t)) }
 {
     match sheet.chart {
-        ChartName::Head => play_chart::<Head>(heap, sheet),
-        ChartName::Valve => play_chart::<Valve>(heap, sheet),
+        ChartName::Head => audited_chart::<Head>(heap, sheet),
+        ChartName::Valve => audited_chart::<Valve>(heap, sheet),
     }
 }

@@ -4,46 +4,95 @@ ghost use Rattle.keeping.specs.Machine.{keeper_steps};
 ghost use Rattle.keeper.specs.Made.{keeper_model};
 ghost use Rattle.deferring.specs.Machine.{deferral_steps};
 ghost use Rattle.deferral.specs.Made.{deferral_model};
-ghost use Rattle.calls.specs.declared.PortCall.{PortCall};
+ghost use Rattle.calls.specs.declared.Layer.{Layer};
+ghost use Rattle.calls.specs.declared.Layer.TheVariants as layer;
+ghost use Rattle.calls.specs.declared.PileCall.{PileCall};
 ghost use Rattle.sheet.specs.Sheets.{on_pile, listed};
-ghost use Rattle.sheet.specs.declared.layers.Layer.{Layer};
-ghost use Rattle.sheet.specs.declared.layers.Layer.TheVariants as layer;
 ghost use Rattle.transcript.specs.Told.{pile_played, played};
 
+use audit::bench::perform_on_bench;
 use bus::bus::Bus;
 use deferral::deferral::Deferral;
 use keeper::keeper::Keeper;
 use paging::paging::Paging;
-use perform::answer::perform_all;
 use port::port::Port;
-use sheet::{Layer, Layers, PortCall};
+use rest::bench::Bench;
+use sheet::{Layer, Layers, PileCall};
 use std::alloc::{AllocError, Global};
 use std::marker::PhantomData;
 use text::text::written;
+use text::under::Dues;
 
-// Performs calls on a port, and tells what came of them.
+// Performs calls on a bench, and tells what came of them.
 #[tactic(auto, unfolding(crate::specs::Told::pile_played))]
-fn play_on_port<P: Port + Drop>(
+fn tell<P: Port>(
     heap: Global,
-    mut port: P,
-    calls: &[PortCall],
+    bench: &mut Bench<P>,
+    calls: &[PileCall],
 ) -> Result<String, AllocError>
-    ensures { IfOk result (λ t. string_bytes t ≡ pile_played P.Chart.Chart.classed P.Chart.Chart.resets [] P.Port.KEEPS (P.Port.steps P.Chart.Chart.classed P.Chart.Chart.resets) P.Port.trace P.Port.chip calls.now (P.Port.model port)) }
+    ensures { let chart = P.Chart.Chart in
+        let port = P.Port in
+        let step = port.steps chart.classed chart.resets in
+        let model = port.model bench.old.pile.port in
+        let text = pile_played chart.counted chart.classed chart.resets [] port.KEEPS step
+        port.trace port.chip calls.now model in
+        IfOk result (λ t. string_bytes t ≡ text) }
 {
-    let outcomes = perform_all(heap, &mut port, calls)?;
-    written(heap, port.bus(), calls, outcomes.as_slice())
+    let outcomes = perform_on_bench(heap, bench, calls)?;
+    let dues = Dues::<P::Chart>::new(P::KEEPS);
+    written(
+        heap,
+        bench.pile.port.bus(),
+        calls,
+        outcomes.as_slice(),
+        dues,
+    )
 }
 
-// A new keeper over a port: calls on layers over it are calls on the keeper and those layers over the port.
+// The same on a port.
+fn play_on_port<P: Port + Drop>(
+    heap: Global,
+    port: P,
+    calls: &[PileCall],
+) -> Result<String, AllocError>
+    ensures { let chart = P.Chart.Chart in
+        let port_steps = P.Port.steps chart.classed chart.resets in
+        let text = pile_played chart.counted chart.classed chart.resets [] P.Port.KEEPS port_steps
+        P.Port.trace P.Port.chip calls.now (P.Port.model port) in
+        IfOk result (λ t. string_bytes t ≡ text) }
+{
+    let mut bench = Bench::new(port);
+    let text = tell(heap, &mut bench, calls);
+    bench.finish();
+    text
+}
+
+// A new keeper over a port: calls on layers over it are calls on the keeper and those layers over
+// the port.
 fn keeper_over<P: Port>(port: P) -> Keeper<P>
-    ensures { (ls : List Layer) (cs : List PortCall) → pile_played P.Chart.Chart.classed P.Chart.Chart.resets ls true (keeper_steps (P.Port.steps P.Chart.Chart.classed P.Chart.Chart.resets) P.Port.chip P.Port.KEEPS P.Chart.Chart.classed P.Chart.Chart.resets) (λ k. P.Port.trace k.below) (λ k. P.Port.chip k.below) cs (keeper_model P.Port.model result) ≡ pile_played P.Chart.Chart.classed P.Chart.Chart.resets (layer.Keeper ∷ ls) P.Port.KEEPS (P.Port.steps P.Chart.Chart.classed P.Chart.Chart.resets) P.Port.trace P.Port.chip cs (P.Port.model port) }
+    ensures { (ls : List Layer) (cs : List PileCall)
+        → let chart = P.Chart.Chart in
+        let step = P.Port.steps chart.classed chart.resets in
+        let below = pile_played chart.counted chart.classed chart.resets (layer.Keeper ∷ ls)
+        P.Port.KEEPS step P.Port.trace P.Port.chip cs (P.Port.model port) in
+        let top = keeper_steps step P.Port.chip P.Port.KEEPS chart.classed chart.resets in
+        pile_played chart.counted chart.classed chart.resets ls true top (λ k. P.Port.trace k.below)
+        (λ k. P.Port.chip k.below) cs (keeper_model P.Port.model result) ≡ below }
 {
     Keeper::new(port)
 }
 
 // A new deferral over a port, in the same way.
 fn deferral_over<P: Port>(port: P) -> Deferral<P>
-    ensures { (ls : List Layer) (cs : List PortCall) → pile_played P.Chart.Chart.classed P.Chart.Chart.resets ls P.Port.KEEPS (deferral_steps (P.Port.steps P.Chart.Chart.classed P.Chart.Chart.resets) P.Port.chip P.Port.KEEPS P.Chart.Chart.classed) (λ k. P.Port.trace k.below) (λ k. P.Port.chip k.below) cs (deferral_model P.Port.model result) ≡ pile_played P.Chart.Chart.classed P.Chart.Chart.resets (layer.Deferral ∷ ls) P.Port.KEEPS (P.Port.steps P.Chart.Chart.classed P.Chart.Chart.resets) P.Port.trace P.Port.chip cs (P.Port.model port) }
+    ensures { (ls : List Layer) (cs : List PileCall)
+        → let chart = P.Chart.Chart in
+        let step = P.Port.steps chart.classed chart.resets in
+        let below = pile_played chart.counted chart.classed chart.resets (layer.Deferral ∷ ls)
+        P.Port.KEEPS step P.Port.trace P.Port.chip cs (P.Port.model port) in
+        let top = deferral_steps step P.Port.chip P.Port.KEEPS chart.classed in
+        pile_played chart.counted chart.classed chart.resets ls P.Port.KEEPS top
+        (λ k. P.Port.trace k.below) (λ k. P.Port.chip k.below) cs
+        (deferral_model P.Port.model result) ≡ below }
 {
     Deferral::new(port)
 }
@@ -58,10 +107,14 @@ trait Height {
         heap: Global,
         port: P,
         layers: &[Layer],
-        calls: &[PortCall],
+        calls: &[PileCall],
     ) -> Result<String, AllocError>
         requires { length layers.now ≤ most }
-        ensures { IfOk result (λ t. string_bytes t ≡ pile_played P.Chart.Chart.classed P.Chart.Chart.resets layers.now P.Port.KEEPS (P.Port.steps P.Chart.Chart.classed P.Chart.Chart.resets) P.Port.trace P.Port.chip calls.now (P.Port.model port)) };
+        ensures { let chart = P.Chart.Chart in
+            let step = P.Port.steps chart.classed chart.resets in
+            let text = pile_played chart.counted chart.classed chart.resets layers.now P.Port.KEEPS
+            step P.Port.trace P.Port.chip calls.now (P.Port.model port) in
+            IfOk result (λ t. string_bytes t ≡ text) };
 }
 
 // No layer.
@@ -74,7 +127,7 @@ impl Height for Flat {
         heap: Global,
         port: P,
         _layers: &[Layer],
-        calls: &[PortCall],
+        calls: &[PileCall],
     ) -> Result<String, AllocError> {
         play_on_port(heap, port, calls)
     }
@@ -90,7 +143,7 @@ impl<H: Height> Height for Higher<H> {
         heap: Global,
         port: P,
         layers: &[Layer],
-        calls: &[PortCall],
+        calls: &[PileCall],
     ) -> Result<String, AllocError> {
         match layers {
             [] => play_on_port(heap, port, calls),
@@ -108,9 +161,14 @@ pub fn play_on_pile<B: Bus + Drop>(
     heap: Global,
     bus: B,
     layers: &Layers,
-    calls: &[PortCall],
+    calls: &[PileCall],
 ) -> Result<String, AllocError>
-    ensures { IfOk result (λ t. string_bytes t ≡ played B.Chart.Chart.classed B.Chart.Chart.resets (B.Bus.steps B.Chart.Chart.classed B.Chart.Chart.resets) B.Bus.trace B.Bus.chip (on_pile (listed layers.now) calls.now) (B.Bus.model bus)) }
+    ensures { let chart = B.Chart.Chart in
+        let step = B.Bus.steps chart.classed chart.resets in
+        let job = on_pile (listed layers.now) calls.now in
+        let text = played chart.counted chart.classed chart.resets step B.Bus.trace B.Bus.chip job
+        (B.Bus.model bus) in
+        IfOk result (λ t. string_bytes t ≡ text) }
 {
     Highest::play(heap, Paging::new(bus), layers.as_slice(), calls)
 }

@@ -1,12 +1,13 @@
 -- The worked cases are shown. Assumes nothing.
 use Prim.Native.Nat.{ℕ, ◌-◌, ◌/◌}
-use Rattle.std.proofs.Common.{◌≡◌, true, false, List, subst, sym}
+use Rattle.std.proofs.Common.{arith, ◌≡◌, true, false, List, subst, sym}
 use Rattle.std.proofs.lemmas.Bool.{cond_both}
 use mathlib.Core.Path.{refl, ap, ◌∙◌}
 use mathlib.Core.Bool.{cond}
 use mathlib.Core.List.{[], ◌∷◌}
 use lib.Dec.{lit≤}
 use lib.ListN.{take}
+use Rattle.std.proofs.lemmas.Fmt.{decimal_digit}
 use Rattle.chart.specs.Patch.{setting_to}
 use Rattle.chart.specs.Replies.{Reply, accepted, refused}
 use Rattle.chart.proofs.Masked.{join_example}
@@ -87,4 +88,6 @@ worked_cases = record {
   owed_over_a_down = owed_over_a_down;
   good_line = λ a tr. (refl, refl);
   three_runs = refl;
+  two_under = rw (decimal_digit 1 (omega arith), decimal_digit 9 (omega arith)) refl;
+  none_under = refl;
 }

@@ -1,7 +1,8 @@
 -- The worked cases. Assumes nothing.
-use Rattle.std.specs.Prelude.{ℕ, ◌≡◌, Bool, true, false, ◌||◌, List, [], ◌∷◌, map, take, Some, ◌==◌}
+use Rattle.std.specs.Prelude.{ℕ, ◌≡◌, Bool, true, false, cond, ◌||◌, List, [], ◌∷◌, ◌++◌, map, take}
+use Rattle.std.specs.Prelude.{Some, ◌==◌, codes}
 use Rattle.std.specs.List.{range_with_len}
-use Rattle.chart.specs.Charts.{within, head_class, head_reset}
+use Rattle.chart.specs.Charts.{within, head_class, head_reset, valve_class, valve_reset}
 use Rattle.chart.specs.Patch.{JoinExample, setting_to}
 use Rattle.chart.specs.Replies.{Reply, accepted, refused}
 use Rattle.chip.specs.Words.{rising, all_stored}
@@ -15,6 +16,8 @@ use Rattle.port.specs.Meaning.{PortSteps}
 use Rattle.pages.specs.Machine.{PagingModel, paged, paging_steps}
 use Rattle.owed.specs.Runs.{tallied}
 use Rattle.keeping.specs.Machine.{KeeperModel, new_keeper, keeper_steps}
+use Rattle.text.specs.Texts.{line_end}
+use Rattle.text.specs.Under.{under_text}
 
 -- a bus of the head chart, behind I2C
 abbrev pub bus : Steps I2cModel
@@ -75,6 +78,10 @@ GoodLine = (a : ℕ) (tr : Traced) → LeavesOwed (set_to 1 7 (piled a [] tr)) 0
 abbrev pub nineteen_and_one : List Bool
 nineteen_and_one = map (λ n. within 1 19 n || n == 32) (range_with_len 0 128)
 
+-- what stands under a reading of the valve chart, where its settings have these words
+abbrev pub valve_under : (ℕ → ℕ) → List ℕ
+valve_under due = under_text 32 valve_class valve_reset due
+
 pub record WorkedCases : Type 0 where
   -- two masked updates joined, and what they make of a word
   pub join : JoinExample
@@ -98,3 +105,8 @@ pub record WorkedCases : Type 0 where
   pub good_line : GoodLine
   -- a run of 16, one of 3, and one alone
   pub three_runs : tallied nineteen_and_one ≡ (20, 3)
+  -- under a reading: 1 has 0x0007 and 9 has 0xBEEF, where all have 1 after a reset
+  pub two_under :
+      valve_under (λ n. cond (n == 1) 7 (cond (n == 9) 0xBEEF 1))
+      ≡ codes "  under 1=0x0007 9=0xBEEF" ++ line_end
+  pub none_under : valve_under (λ n. 1) ≡ codes "  under reset settings" ++ line_end

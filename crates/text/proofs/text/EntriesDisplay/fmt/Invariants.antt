@@ -3,6 +3,7 @@ use Rattle.std.specs.Fmt.{HasWritten, IsPlainFormatter}
 use Rattle.std.specs.Iterator.Adapters.{enumerate_count, enumerate_source, zip_first, zip_second}
 use Rattle.std.specs.Slice.Iter.{iter_rest}
 use Rattle.perform.specs.Performed.{seen}
+use Rattle.text.specs.Noting.{shown_lines}
 use Rattle.text.specs.Texts.{calls_lines}
 use Rattle.text.proofs.text.EntriesDisplay.fmt.Given as goal
 
@@ -11,7 +12,13 @@ abbrev pub invariant-loop-before : goal.invariant-loop-before
 invariant-loop-before g l =
     let es = l.self.events.now in
     let left = enumerate_source l.before-iterator in
+    let n = g.N.Notes in
+    let seen = map (seen g.F.Tells.values) in
+    let lines = shown_lines g.C.Prints.text n.next n.told in
+    let whole = lines (n.state l.self.notes) l.self.calls.now (seen l.self.outcomes.now) in
+    let unseen = seen (iter_rest (zip_second left)) in
+    let rest = lines (n.state l.notes) (iter_rest (zip_first left)) unseen in
     IsPlainFormatter l.initial.f
     → (done : List ℕ) × HasWritten g.W.Write.write_str_gives l.initial.f done l.f
-    × (done ++ calls_lines es (enumerate_count l.before-iterator) l.passed (map g.C.Prints.text (iter_rest (zip_first left))) (map (seen g.F.Tells.values) (iter_rest (zip_second left)))
-    ≡ calls_lines es 0 0 (map g.C.Prints.text l.self.calls.now) (map (seen g.F.Tells.values) l.self.outcomes.now))
+    × (done ++ calls_lines es (enumerate_count l.before-iterator) l.passed rest
+    ≡ calls_lines es 0 0 whole)

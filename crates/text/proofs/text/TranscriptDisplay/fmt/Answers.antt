@@ -7,5 +7,9 @@ use Rattle.text.proofs.text.TranscriptDisplay.fmt.Goals as goal
 pub returns-clause-writes : goal.returns-clause-writes
 returns-clause-writes g c =
     let trace = g.B.Bus.trace (g.B.Bus.model c.args.self.now.bus.now) in
-    let is = whole g.C.Prints.text (seen g.F.Tells.values) trace _ _ _ c.args.self.now.calls.now c.args.self.now.outcomes.now _ _ c.events.ensures (c.note-note.ensures ∙ ap full_text c.overrun.ensures) c.min-calls.ensures c.failed-failed.ensures in
+    let n = g.N.Notes in
+    let is = whole g.C.Prints.text n.next n.told (n.state c.args.self.now.notes)
+    (seen g.F.Tells.values) trace _ _ _ c.args.self.now.calls.now c.args.self.now.outcomes.now
+    _ _ c.events.ensures (c.note-note.ensures ∙ ap full_text c.overrun.ensures)
+    c.min-calls.ensures c.failed-failed.ensures in
     λ plain ok. rw (← is) (c.writeln.ensures.writes plain ok)

@@ -1,0 +1,10 @@
+pub mod Moments
+pub mod Ledger
+pub mod Audited
+pub mod Runs
+pub mod Records
+pub mod Fits
+pub mod Rested
+pub mod Small
+pub mod Planted
+pub mod Worked
