@@ -171,8 +171,8 @@ pub record NoneAudited : Type 0 where
       let off = without_supply idle_chip in
       NotAudited
       (moment_on idle_chip (Read 1) (accepted (0 ∷ []))
-      ∷ moment_on off (Read 1) (accepted (0 ∷ [])) ∷ [])
-      off
+      ∷ moment_at (Read 1) (accepted (0 ∷ [])) off idle_chip ∷ [])
+      idle_chip
   pub torn_count :
       let failed = small_chip 0 0 1 in
       NotAudited
