@@ -1,3 +1,1 @@
 pub mod Settled
-pub mod WindowMeaning
-pub mod I2cMeaning

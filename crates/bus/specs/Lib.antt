@@ -1,5 +1,3 @@
 pub mod Chips
 pub mod Checks
 pub mod Meaning
-pub mod Windows
-pub mod I2cs

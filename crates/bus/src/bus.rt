@@ -1,75 +1,72 @@
 // A bus reaches one chip by raw addresses.
-ghost use Rattle.std.specs.Prelude.{◌≡◌, ℕ};
-ghost use Rattle.chart.specs.declared.class.Class.{Class};
-ghost use Rattle.chart.specs.Rules.{ChartRules};
-ghost use Rattle.chart.specs.Replies.{reply, word_value, no_value};
-ghost use Rattle.i2c_target.specs.Traces.{Traced};
-ghost use Rattle.bus.specs.Chips.{Chip};
-ghost use Rattle.bus.specs.Meaning.{Steps, BusMeaning};
+ghost use Rattle.std.specs.Prelude.{◌≡◌};
+ghost use Rattle.refusal.specs.Replies.{bus_reply, word_value, no_value};
+ghost use Rattle.bus.specs.Meaning.{BusMachine, BusMeaning};
 
-use chart::class::Chart;
-use chart::refusal::{Failure, Refusal};
-use i2c_target::event::Event;
+use chart::Chart;
+use refusal::{Failure, Refusal};
+use trace::Event;
 
+/// A bus to one chip, whose words it reaches by raw addresses from 0 to 63. Each call is what the
+/// bus's machine says, on every input, and the machine has the meaning of a bus. Where several
+/// refusals fit, the one with the smallest number is given. 1 to 5 are decided before anything is
+/// sent, and change nothing; 6 raises the count of failed transfers by one
+/// (docs/RULES.md, sections 4, 6 and 7).
 pub trait Bus {
-    // The chart of its chip.
+    /// The chart of its chip.
     type Chart: Chart;
 
-    // All that a bus remembers.
-    ghost Model: { Type 0 };
+    // what each call does, and what is known of the bus
+    ghost machine: { BusMachine Self };
 
-    // A clause of a trait sees a value through its members alone, so each goes through this one.
-    ghost model: { Self → Model };
-
-    // What each call does, by the classes and the reset words of any chart. The clauses put in its own: a member that has them in it would
-    // be one more for each `impl` to give, since a default sees no other member.
-    ghost steps: { (ℕ → Class) → (ℕ → ℕ) → Steps Model };
-
-    ghost chip: { Model → Chip };
-
-    // What passed on the wire so far, as far as there was room.
-    ghost trace: { Model → Traced };
-
-    ghost Sound: { Model → Type 0 };
-
-    ghost New: { (ℕ → ℕ) → Model → Type 0 };
-
-    // The word at a raw address.
+    /// The word at a raw address. Refuses by 2 (register) an address above 63, by 5 (asleep) with
+    /// the supply off, and by 6 (line) if the transfer failed; nothing is stored in any case
+    /// (docs/RULES.md, section 7).
     fn get(&mut self, raw: u16) -> Result<u16, Refusal<Failure>>
-        ensures { (reply word_value result, model self.new) ≡ (steps Self.Chart.Chart.classed Self.Chart.Chart.resets).get (model self.old) raw };
+        ensures { (bus_reply word_value result, self.new) ≡ machine.get self.old raw };
 
-    // Stores words at rising raw addresses.
+    /// Stores words in order at this raw address and those after it, whatever the class of their
+    /// registers. Refuses by 1 (length) any number of words but 1 to 16, by 2 (register) if one
+    /// would lie above raw 63, by 5 (asleep) with the supply off, and by 6 (line) if the transfer
+    /// failed: then the first words are stored, as many as are told, fewer than there are, and no
+    /// others (docs/RULES.md, section 7).
     fn put(&mut self, raw: u16, words: &[u16]) -> Result<(), Refusal<Failure>>
-        ensures { (reply no_value result, model self.new) ≡ (steps Self.Chart.Chart.classed Self.Chart.Chart.resets).put (model self.old) raw words.now };
+        ensures { (bus_reply no_value result, self.new) ≡ machine.put self.old raw words.now };
 
-    // The chip measures: the word goes into a live register if the supply is on, and nowhere else.
+    /// The chip measures: with the supply on the word goes into a live register, by its chart
+    /// number; with the supply off nothing happens, and that is no refusal. Refuses by 2 (register)
+    /// a number that names no register, and by 4 (setting) a setting (docs/RULES.md, section 7).
     fn measure(&mut self, register: u16, word: u16) -> Result<(), Refusal<Failure>>
-        ensures { (reply no_value result, model self.new) ≡ (steps Self.Chart.Chart.classed Self.Chart.Chart.resets).measure (model self.old) register word };
+        ensures { (bus_reply no_value result, self.new) ≡ machine.measure self.old register word };
 
-    // The supply goes, and the chip forgets all.
+    /// The supply goes: every word is its reset word then, the selector is 0. Never refused
+    /// (docs/RULES.md, section 7).
     fn down(&mut self)
-        ensures { model self.new ≡ (steps Self.Chart.Chart.classed Self.Chart.Chart.resets).down (model self.old) };
+        ensures { self.new ≡ machine.down self.old };
 
+    /// The supply comes, and the words stand. Never refused (docs/RULES.md, section 7).
     fn up(&mut self)
-        ensures { model self.new ≡ (steps Self.Chart.Chart.classed Self.Chart.Chart.resets).up (model self.old) };
+        ensures { self.new ≡ machine.up self.old };
 
-    // Whether the supply is on.
+    /// Whether the supply is on.
     fn supply(&self) -> bool
-        ensures { result ≡ (chip (model self.now)).supply };
+        ensures { result ≡ (machine.chip self.now).supply };
 
-    // How many transfers failed.
+    /// How many transfers failed since the bus was made.
     fn failed(&self) -> u64
-        ensures { result ≡ (chip (model self.now)).failed };
+        ensures { result ≡ (machine.chip self.now).failed };
 
-    // The events that passed on the wire so far, in order, as far as there was room. A bus that has no wire has none.
-    // This and `overrun` are methods apart, since such a bus has no `Trace` that could be lent for both.
+    /// The events that passed on the wire so far, in order, as far as there was room. A bus that
+    /// has no wire has none (docs/RULES.md, section 10).
+    // This and `lost` are methods apart, since such a bus has no `Trace` that could be lent for
+    // both.
     fn events(&self) -> &[Event]
-        ensures { result.now ≡ (trace (model self.now)).events };
+        ensures { result.now ≡ (machine.trace self.now).events };
 
-    // Whether an event found no room.
-    fn overrun(&self) -> bool
-        ensures { result ≡ (trace (model self.now)).overrun };
+    /// How many events found no room (docs/RULES.md, section 10).
+    fn lost(&self) -> usize
+        ensures { result ≡ (machine.trace self.now).lost };
 
-    // What each `impl` must prove, for every chart.
-    ghost meaning: { (count : ℕ) (class : ℕ → Class) (reset : ℕ → ℕ) → ChartRules count class reset → BusMeaning class reset (steps class reset) chip Sound (New reset) };
+    // what each `impl` must prove
+    ghost meaning: { BusMeaning Self.Chart.Chart.classed Self.Chart.Chart.resets machine };
 }

@@ -1,5 +1,9 @@
 #![tactic(auto)]
 
-pub mod bus;
-pub mod checks;
-pub mod unmade;
+mod bus;
+mod checks;
+mod unmade;
+
+pub use bus::Bus;
+pub use checks::{check_awake, check_get, check_length, check_measure, check_put};
+pub use unmade::Unmade;

@@ -1,9 +1,11 @@
 // What is answered where no bus was made.
-use chart::refusal::{Failure, Refusal};
+use refusal::{Failure, Refusal};
 
-// Why, and what the bus was to be made of, handed back as it was.
+/// No bus was made (docs/RULES.md, section 4).
 #[derive(Drop)]
 pub struct Unmade<T> {
+    /// Why: 7 (address) or 8 (memory).
     pub refusal: Refusal<Failure>,
+    /// What the bus was to be made of, as it was handed over.
     pub given: T,
 }

@@ -1,5 +1,2 @@
-pub mod Rules
 pub mod Charts
-pub mod Replies
-pub mod Patch
-pub mod Names
+pub mod Rules

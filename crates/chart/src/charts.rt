@@ -4,6 +4,8 @@ ghost use Rattle.std.proofs.Common.{rules};
 
 use crate::class::{Chart, Class};
 
+/// The chart of the teat sensor head: numbers below 128, of which 1 to 19 and 32 to 111 are
+/// settings, and 20 to 23 and 112 to 127 live (docs/RULES.md, section 3).
 #[derive(Debug, Clone, Copy, PartialEq, Eq)]
 pub struct Head;
 
@@ -37,6 +39,8 @@ impl Chart for Head {
     }
 }
 
+/// The chart of the valve block: numbers below 32, of which 1 to 15 are settings and 16 to 19 live
+/// (docs/RULES.md, section 3).
 #[derive(Debug, Clone, Copy, PartialEq, Eq)]
 pub struct Valve;
 

@@ -1,6 +1,7 @@
 #![tactic(auto)]
 
-pub mod charts;
-pub mod class;
-pub mod patch;
-pub mod refusal;
+mod charts;
+mod class;
+
+pub use charts::{Head, Valve};
+pub use class::{Chart, Class};

@@ -3,15 +3,15 @@ use Rattle.std.proofs.Common.{◌≡◌, ◌≢◌, ℕ, ◌+◌, eqb, cond, Lis
 use Rattle.std.proofs.Common.{◌∙◌, subst}
 use Rattle.std.proofs.lemmas.List.{append-nil}
 use Rattle.std.proofs.lemmas.Bool.{cond_both, cond-true, cond-false, eqb-true, eq-eqb, both_ways}
-use Rattle.chart.specs.Patch.{setting_to}
-use Rattle.chart.specs.Replies.{Reply}
-use Rattle.chart.specs.declared.patch.Patch.{Patch}
-use Rattle.chip.specs.Words.{rising}
+use Rattle.patch.specs.Patch.{setting_to}
+use Rattle.refusal.specs.Replies.{Reply}
+use Rattle.patch.specs.declared.patch.Patch.{Patch}
+use Rattle.chip.specs.Words.{rising_words}
 use Rattle.port.specs.Checks.{is_accepted, onward, in_turn}
-use Rattle.port.specs.OneByOne.{one_by_one, word_updated, InOrder}
+use Rattle.port.specs.OneByOne.{one_by_one, update_word, InOrder}
 use Rattle.port.specs.Pieces.{InPieces, Taken, EndedAt}
 
--- A model: what the calls are on, a state of its own, and how it sends a piece. What is told of a
+-- What the calls are on, a state over that, and how it sends a piece. What is told of a
 -- refusal keeps its number.
 module _ {A K M S : Type 0} (tell : Reply → Reply)
     (numbers : (r : Reply) → (tell r).number ≡ r.number)
@@ -100,23 +100,23 @@ module _ {A M S : Type 0} (tell : Reply → Reply)
 -- A run by updates goes word by word, in order.
 module _ {M : Type 0} (update : M → ℕ → Patch → Reply × M) where
   by_words : (m : M) (first : ℕ) (ws : List ℕ)
-      → one_by_one update m first ws ≡ in_turn (word_updated update) (rising first ws) m
+      → one_by_one update m first ws ≡ in_turn (update_word update) (rising_words first ws) m
   by_words m first [] = refl
   by_words m first (w ∷ ws) =
       let q = update m first (setting_to w) in
       cond_both (is_accepted q.0) (one_by_one update q.1 (first + 1) ws) q
-      (λ p. p ≡ onward q (in_turn (word_updated update) (rising (first + 1) ws)))
+      (λ p. p ≡ onward q (in_turn (update_word update) (rising_words (first + 1) ws)))
       (λ ok. by_words q.1 (first + 1) ws ∙ sym (cond-true (is_accepted q.0) _ _ ok))
       (λ refused. sym (cond-false (is_accepted q.0) _ _ refused))
 
   each_word : (m : M) (word : ℕ × ℕ)
-      → PieceBack (λ r. r) (λ r. refl) (λ (_ : Unit {0}). word_updated update) (λ _ s. s)
-      (λ k. k) (λ _. tt) (word_updated update) m word
+      → PieceBack (λ r. r) (λ r. refl) (λ (_ : Unit {0}). update_word update) (λ _ s. s)
+      (λ k. k) (λ _. tt) (update_word update) m word
   each_word m word = record { told = refl; under = refl; kept = refl }
 
   pub in_order : (m : M) (first : ℕ) (ws : List ℕ)
       → let q = one_by_one update m first ws in InOrder update first ws m q.0 q.1
   in_order m first ws =
       subst (λ q. InOrder update first ws m q.0 q.1) (sym (by_words m first ws))
-      (sent_in_pieces (λ r. r) (λ r. refl) (λ (_ : Unit {0}). word_updated update) (λ _ s. s)
-      (λ k. k) (λ _. tt) (word_updated update) each_word (rising first ws) m)
+      (sent_in_pieces (λ r. r) (λ r. refl) (λ (_ : Unit {0}). update_word update) (λ _ s. s)
+      (λ k. k) (λ _. tt) (update_word update) each_word (rising_words first ws) m)

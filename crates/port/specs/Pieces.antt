@@ -1,6 +1,6 @@
 -- A call that goes in pieces, one after the other. Assumes nothing.
 use Rattle.std.specs.Prelude.{◌≡◌, ◌≢◌, List, [], ◌∷◌, ◌++◌}
-use Rattle.chart.specs.Replies.{Reply, accepted}
+use Rattle.refusal.specs.Replies.{Reply, acceptance}
 
 -- A piece goes by a call on m, which a state s may shape; accepted, the piece is gone from that
 -- state. A refusal is passed on as it is told.
@@ -14,7 +14,7 @@ module _ {A M S : Type 0} (told : Reply → Reply) (call : S → M → A → Rep
 
   -- all pieces are gone; or the next was refused, and the call ends with it
   abbrev pub EndedAt : List A → S → M → Reply → M → Type 0
-  EndedAt [] s m r k = (r ≡ accepted []) × (k ≡ m)
+  EndedAt [] s m r k = (r ≡ acceptance []) × (k ≡ m)
   EndedAt (a ∷ more) s m r k =
       ((call s m a).0.number ≢ 0) × (r ≡ told (call s m a).0) × (k ≡ (call s m a).1)
 

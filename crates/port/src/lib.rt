@@ -1,4 +1,7 @@
 #![tactic(auto)]
 
-pub mod checks;
-pub mod port;
+mod checks;
+mod port;
+
+pub use checks::Access;
+pub use port::Port;

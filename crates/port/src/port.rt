@@ -1,65 +1,51 @@
 // A port offers a chip's registers by their chart numbers.
-ghost use Rattle.std.specs.Prelude.{◌≡◌, ℕ, Bool, None, length};
-ghost use Rattle.chart.specs.declared.class.Class.{Class};
-ghost use Rattle.chart.specs.Replies.{port_reply, word_value, no_value};
-ghost use Rattle.i2c_target.specs.Traces.{Traced};
-ghost use Rattle.bus.specs.Chips.{Chip};
+ghost use Rattle.std.specs.Prelude.{◌≡◌, Bool, None, length};
+ghost use Rattle.refusal.specs.Replies.{port_reply, word_value, no_value};
 ghost use Rattle.port.specs.Checks.{run_check};
-ghost use Rattle.port.specs.Views.{view_of};
-ghost use Rattle.port.specs.OneByOne.{each_updated, InOrder};
-ghost use Rattle.port.specs.Meaning.{PortSteps, PortMeaning};
+ghost use Rattle.port.specs.OneByOne.{update_each, InOrder};
+ghost use Rattle.port.specs.Meaning.{PortMachine, PortMeaning, supply};
 
 use crate::checks::Access;
-use bus::bus::Bus;
-use chart::class::Chart;
-use chart::patch::Patch;
-use chart::refusal::{Fault, Refusal};
+use bus::Bus;
+use chart::Chart;
+use patch::Patch;
+use refusal::{Fault, Refusal};
 
+/// The registers of a chip by their chart numbers, over a bus or over another port. Each call is
+/// what the port's machine says, on every input, and the machine has the meaning of a port. Where
+/// several refusals fit, the one with the smallest number is given. 1 to 5 are decided before
+/// anything is sent, and change nothing; 6 raises the count of failed transfers by one, and live
+/// words and the supply stand (docs/RULES.md, sections 4 and 13).
 pub trait Port {
-    // The chart of the chip, taken from below.
+    /// The chart of the chip, taken from below (docs/RULES.md, section 13).
     type Chart: Chart;
 
-    // The bus at the bottom.
+    /// The bus at the bottom (docs/RULES.md, section 13).
     type Bus: Bus<Chart = Self::Chart>;
 
-    // Whether it knows its settings by itself, so that they outlive the supply.
+    /// Whether it keeps: knows its settings by itself, so that they outlive the supply
+    /// (docs/RULES.md, section 13).
     const KEEPS: bool;
 
     ghost KEEPS: { Bool };
 
-    // All that the port and what is below it remember.
-    ghost Model: { Type 0 };
+    // what each call does, and what is known of the port
+    ghost machine: { PortMachine Self };
 
-    // Each clause goes through this, as on a bus.
-    ghost model: { Self → Model };
-
-    // What each call does, by the classes and the reset words of any chart, as on a bus.
-    ghost steps: { (ℕ → Class) → (ℕ → ℕ) → PortSteps Model };
-
-    // The settings as it shows them, by number.
-    ghost shown: { Model → ℕ → ℕ };
-
-    ghost chip: { Model → Chip };
-
-    ghost trace: { Model → Traced };
-
-    ghost Sound: { Model → Type 0 };
-
-    ghost New: { (ℕ → ℕ) → Model → Type 0 };
-
-    // The bus at the bottom, for looking.
+    /// The bus at the bottom, for looking (docs/RULES.md, section 13).
     fn bus(&self) -> &Self::Bus
-        ensures chip { Self.Bus.Bus.chip (Self.Bus.Bus.model result.now) ≡ chip (model self.now) }
-        ensures trace { Self.Bus.Bus.trace (Self.Bus.Bus.model result.now) ≡ trace (model self.now) };
+        ensures chip { Self.Bus.Bus.machine.chip result.now ≡ machine.chip self.now }
+        ensures trace { Self.Bus.Bus.machine.trace result.now ≡ machine.trace self.now };
 
-    // Whether the supply is on.
+    /// Whether the supply is on (docs/RULES.md, section 13).
     fn supply(&self) -> bool
-        ensures { result ≡ (chip (model self.now)).supply };
+        ensures { result ≡ supply machine self.now };
 
-    // What it can reach now, by which its calls are checked.
+    /// What it can reach now, by which its calls are checked: whether it keeps, and whether the
+    /// supply is on (docs/RULES.md, section 13).
     fn access(&self) -> Access
         ensures keeps { result.keeps ≡ KEEPS }
-        ensures supply { result.supply ≡ (chip (model self.now)).supply }
+        ensures supply { result.supply ≡ supply machine self.now }
     {
         Access {
             keeps: Self::KEEPS,
@@ -67,31 +53,40 @@ pub trait Port {
         }
     }
 
-    // A setting as it is shown, or a live word as the chip has it.
+    /// A setting as it is shown; or a live word as the chip has it, and by then the chip has every
+    /// setting as it is shown too. Refuses by 2 (register) a number that names no register, by 5
+    /// (asleep) with the supply off a live register, and a setting too on a port that forgets its
+    /// settings, and by 6 (line) if a transfer failed. The settings are shown as before in any case
+    /// (docs/RULES.md, section 13).
     fn read(&mut self, register: u16) -> Result<u16, Refusal<Fault>>
-        ensures { (port_reply word_value result, model self.new) ≡ (steps Self.Chart.Chart.classed Self.Chart.Chart.resets).read (model self.old) register };
+        ensures { (port_reply word_value result, self.new) ≡ machine.read self.old register };
 
-    // Changes a setting under a mask.
+    /// Changes a setting under a mask. Refuses by 2 (register) a number that names no register, by
+    /// 3 (live) a live register, by 5 (asleep) with the supply off on a port that forgets them,
+    /// and by 6 (line) if a transfer failed; the settings are then shown as before
+    /// (docs/RULES.md, sections 5 and 13).
     fn update(&mut self, register: u16, patch: Patch) -> Result<(), Refusal<Fault>>
-        ensures { (port_reply no_value result, model self.new) ≡ (steps Self.Chart.Chart.classed Self.Chart.Chart.resets).update (model self.old) register patch };
+        ensures { (port_reply no_value result, self.new) ≡ machine.update self.old register patch };
 
-    // Several settings in a row, each to its own word. It is there for a port that stands on this one.
+    /// Sets `first` and the settings after it each to its own word: for a port that stands on this
+    /// one. Refuses by 1 (length) any number of words but 1 to 16, by 2 (register) if one of the
+    /// numbers names no register, by 3 (live) if one is live, and by 5 (asleep) and 6 (line) as an
+    /// update; refused by 6, each of them is shown as before or as given, and every other setting
+    /// as before (docs/RULES.md, section 13).
     fn run(&mut self, first: u16, words: &[u16]) -> Result<(), Refusal<Fault>>
-        ensures { (port_reply no_value result, model self.new) ≡ (steps Self.Chart.Chart.classed Self.Chart.Chart.resets).run (model self.old) first words.now };
+        ensures { (port_reply no_value result, self.new) ≡ machine.run self.old first words.now };
 
-    // A run by updates, for a port that has no shorter way to take one: checked whole, and then its
-    // words one by one, up to the first that is refused.
+    /// A run by updates, for a port that has no shorter way to take one. Refuses by 1, 2, 3 and 5
+    /// as a run, before the first word; then each word is an update under a full mask, up to the
+    /// first that is refused, whose refusal it answers (docs/RULES.md, section 13).
     fn update_each(&mut self, first: u16, words: &[u16]) -> Result<(), Refusal<Fault>>
         ensures value { let class = Self.Chart.Chart.classed in
-            let update = (steps class Self.Chart.Chart.resets).update in
-            let on : Model → Bool = λ m. (chip m).supply in
-            (port_reply no_value result, model self.new)
-            ≡ each_updated KEEPS class on update (model self.old) first words.now }
+            (port_reply no_value result, self.new)
+            ≡ update_each KEEPS class (supply machine) machine.update self.old first words.now }
         ensures order { let class = Self.Chart.Chart.classed in
-            let update = (steps class Self.Chart.Chart.resets).update in
-            let reply = port_reply no_value result in
-            run_check KEEPS class first (length words.now) (chip (model self.old)).supply ≡ None
-            → InOrder update first words.now (model self.old) reply (model self.new) }
+            run_check KEEPS class first (length words.now) (supply machine self.old) ≡ None
+            → let reply = port_reply no_value result in
+            InOrder machine.update first words.now self.old reply self.new }
     {
         self.access().check_run::<Self::Chart>(first, words.len())?;
         for (register, word) in (first..).zip(words) {
@@ -100,23 +95,28 @@ pub trait Port {
         Ok(())
     }
 
-    /// Sends what the chip has not got yet, so that it then has every setting as it is shown. It
-    /// refuses by 5 with the supply off, and by 6 if a transfer failed. What is shown and the live
-    /// words stand, whatever it answers.
+    /// Sends what the chip has not got yet, so that it then has every setting as it is shown.
+    /// Refuses by 5 (asleep) with the supply off, and by 6 (line) if a transfer failed. The
+    /// settings are shown as before in any case (docs/RULES.md, section 13).
     fn sync(&mut self) -> Result<(), Refusal<Fault>>
-        ensures { let step = steps Self.Chart.Chart.classed Self.Chart.Chart.resets in
-            (port_reply no_value result, model self.new) ≡ step.sync (model self.old) };
+        ensures { (port_reply no_value result, self.new) ≡ machine.sync self.old };
 
-    // The chip measures: the word goes into a live register if the supply is on, and nowhere else.
+    /// The chip measures: with the supply on the word goes into a live register, and nowhere else;
+    /// with the supply off nothing happens, and that is no refusal. Refuses by 2 (register) a
+    /// number that names no register, and by 4 (setting) a setting
+    /// (docs/RULES.md, sections 7 and 13).
     fn measure(&mut self, register: u16, word: u16) -> Result<(), Refusal<Fault>>
-        ensures { (port_reply no_value result, model self.new) ≡ (steps Self.Chart.Chart.classed Self.Chart.Chart.resets).measure (model self.old) register word };
+        ensures { (port_reply no_value result, self.new) ≡ machine.measure self.old register word };
 
-    // The supply goes, and the chip forgets all.
+    /// The supply goes, and the chip forgets all; a port that forgets them then shows reset words.
+    /// Never refused (docs/RULES.md, section 13).
     fn down(&mut self)
-        ensures { model self.new ≡ (steps Self.Chart.Chart.classed Self.Chart.Chart.resets).down (model self.old) };
+        ensures { self.new ≡ machine.down self.old };
 
+    /// The supply comes, and every word stands. Never refused (docs/RULES.md, section 13).
     fn up(&mut self)
-        ensures { model self.new ≡ (steps Self.Chart.Chart.classed Self.Chart.Chart.resets).up (model self.old) };
+        ensures { self.new ≡ machine.up self.old };
 
-    ghost meaning: { PortMeaning KEEPS Self.Chart.Chart.classed Self.Chart.Chart.resets (steps Self.Chart.Chart.classed Self.Chart.Chart.resets) (λ m. view_of (shown m) (chip m)) Sound (New Self.Chart.Chart.resets) };
+    // what each `impl` must prove
+    ghost meaning: { PortMeaning KEEPS Self.Chart.Chart.classed Self.Chart.Chart.resets machine };
 }

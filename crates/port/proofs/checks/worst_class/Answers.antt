@@ -10,6 +10,7 @@ returns g c =
     let r = c.args.registers in
     let class = g.C.Chart.classed in
     fold_from_yields_List _ worse _ _ c.fold.ensures.ran
-    (YieldsList-from_map _ class (YieldsList-from_range r.start r.end _ (search rules) refl) (search rules) (λ n k q h. search rules))
+    (YieldsList-from_map _ class (YieldsList-from_range r.start r.end _ (search rules) refl)
+    (search rules) (λ n k q h. search rules))
     (λ a n b q h. search rules)
     ∙ worst_folds class r.start (r.end - r.start)

@@ -1,0 +1,5 @@
+#![tactic(auto)]
+
+mod wire;
+
+pub use wire::Wire;

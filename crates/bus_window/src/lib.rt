@@ -1,0 +1,5 @@
+#![tactic(auto)]
+
+mod window;
+
+pub use window::Window;

@@ -1,5 +1,0 @@
-pub mod Covering
-pub mod Sending
-pub mod DeferralMeaning
-pub mod Stepping
-pub mod Lawful

@@ -1,5 +1,0 @@
-#![tactic(auto)]
-
-pub mod entry;
-mod slots;
-pub mod table;

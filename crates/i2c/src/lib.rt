@@ -1,4 +1,0 @@
-#![tactic(auto)]
-
-pub mod i2c;
-pub mod line;

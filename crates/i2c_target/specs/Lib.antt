@@ -1,2 +1,0 @@
-pub mod Targets
-pub mod Traces

@@ -1,5 +1,0 @@
-#![tactic(auto)]
-
-pub mod event;
-pub mod target;
-pub mod trace;

@@ -1,5 +1,0 @@
-use Rattle.owed.proofs.Marking.{TellsBelow}
-use Rattle.owed.proofs.marks.Marks.differing.Given as goal
-
-abbrev pub invariant-loop-register : goal.invariant-loop-register
-invariant-loop-register g l = TellsBelow g.C.Chart.resets l.words l.register l.marks

@@ -1,4 +1,0 @@
-#![tactic(auto)]
-
-pub mod marks;
-pub mod runs;

@@ -1,0 +1,5 @@
+#![tactic(auto)]
+
+mod patch;
+
+pub use patch::Patch;

@@ -1,4 +1,0 @@
-#![tactic(auto)]
-
-pub mod answer;
-pub mod kinds;

@@ -1,0 +1,5 @@
+#![tactic(auto)]
+
+mod deferral;
+
+pub use deferral::Deferral;

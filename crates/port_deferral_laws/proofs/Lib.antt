@@ -1,0 +1,5 @@
+pub mod Covering
+pub mod Sending
+pub mod DeferralMeaning
+pub mod Stepping
+pub mod DeferralLaws

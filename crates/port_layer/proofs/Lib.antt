@@ -1,0 +1,4 @@
+pub mod Standing
+pub mod OneByOne
+pub mod LayerMeaning
+pub mod LayerLaws

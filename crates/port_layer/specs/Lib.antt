@@ -1,0 +1,3 @@
+pub mod Errands
+pub mod Layer
+pub mod Laws

@@ -1,0 +1,5 @@
+#![tactic(auto)]
+
+mod paging;
+
+pub use paging::Paging;

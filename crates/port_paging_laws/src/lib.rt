@@ -1,0 +1,5 @@
+#![tactic(auto)]
+
+mod places;
+
+pub use places::{Place, room_of};

@@ -1,0 +1,5 @@
+#![tactic(auto)]
+
+mod refusal;
+
+pub use refusal::{Cause, Errand, Failure, Fault, Refusal, Tells};

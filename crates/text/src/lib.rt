@@ -1,5 +1,0 @@
-#![tactic(auto)]
-
-pub mod notes;
-pub mod text;
-pub mod under;

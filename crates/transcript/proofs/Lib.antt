@@ -1,4 +1,0 @@
-mod Telling
-mod Roomy
-mod Dues
-mod Auditing

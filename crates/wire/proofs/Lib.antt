@@ -1,6 +1,0 @@
-pub mod Passing
-pub mod Fetching
-pub mod Recovering
-pub mod Arriving
-pub mod Effects
-pub mod Rooms
