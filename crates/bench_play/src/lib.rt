@@ -12,7 +12,7 @@ ghost use Rattle.bench_play.specs.Told.{JobTells, I2cTells, MakeTells, SheetTell
 
 use bench_run::perform_all;
 use bench_sheet::{Call, Calls, ChartName, Make, Sheet};
-use bench_text::{Nothing, unmade};
+use bench_text::{Nothing, unmade_text};
 use bus::{Bus, Unmade};
 use bus_i2c::I2c;
 use bus_window::Window;
@@ -72,7 +72,7 @@ fn play<B: Bus + Drop, T: Drop>(
         (Ok(bus), Calls::Pile { layers, calls }) => {
             play_on_pile(heap, bus, layers, calls.as_slice())
         }
-        (Err(Unmade { refusal, .. }), _) => Ok(unmade(heap, refusal)?),
+        (Err(Unmade { refusal, .. }), _) => Ok(unmade_text(heap, refusal)?),
     }
 }
 
@@ -113,7 +113,7 @@ fn play_in_room<C: Chart>(heap: Global, address: u16, sheet: &Sheet) -> Result<S
     let room = count_of(&sheet.calls).saturating_mul(EVENTS_OF_A_CALL);
     match play_i2c::<C>(heap, address, sheet, room) {
         Err(Unfinished::Room(room)) => play_i2c::<C>(heap, address, sheet, room),
-        played => played,
+        finished => finished,
     }
 }
 
@@ -149,7 +149,7 @@ fn audited_chart<C: Chart>(heap: Global, sheet: &Sheet) -> Result<String, Unfini
 }
 
 // The same on the chart that a sheet names.
-fn played(heap: Global, sheet: &Sheet) -> Result<String, Unfinished>
+fn play_sheet(heap: Global, sheet: &Sheet) -> Result<String, Unfinished>
     ensures tells { IfOk result (λ t. SheetTells (whole sheet.now) (string_bytes t)) }
     ensures audited { IfOk result (λ t. SheetAudited (whole sheet.now) (string_bytes t)) }
 {
@@ -169,7 +169,7 @@ pub fn transcript(heap: Global, sheet: &Sheet) -> Result<String, AllocError>
     // On one that does not keep nothing stands under a call.
     ensures audited { IfOk result (λ t. SheetAudited (whole sheet.now) (string_bytes t)) }
 {
-    match played(heap, sheet) {
+    match play_sheet(heap, sheet) {
         Ok(text) => Ok(text),
         Err(_) => Err(AllocError),
     }

@@ -5,10 +5,11 @@ ghost use Rattle.bench_run.specs.Performed.{seen_of};
 ghost use Rattle.bench_text.specs.Noting.{call_entries};
 ghost use Rattle.bench_text.specs.Texts.{transcript_text};
 ghost use Rattle.bench_play.specs.Wanting.{wanted_room};
+ghost use Rattle.bench_play.specs.declared.unfinished.Unfinished.TheVariants.{Memory};
 
 use bench_call::Prints;
 use bench_run::Outcome;
-use bench_text::{Notes, written};
+use bench_text::{Notes, transcript_text};
 use bus::Bus;
 use refusal::Tells;
 use std::alloc::{AllocError, Global};
@@ -23,12 +24,15 @@ pub enum Unfinished {
 }
 
 impl From<AllocError> for Unfinished {
+    ghost from_gives = { λ e r. r ≡ Memory e };
+
     fn from(error: AllocError) -> Unfinished {
         Unfinished::Memory(error)
     }
 }
 
-/// The text of what was performed on a bus, as `written` gives it, where no event was left out.
+/// The text of what was performed on a bus, as [`transcript_text`] gives it, where no event was left
+/// out.
 pub fn whole_text<B: Bus, C: Prints, F: Tells + Copy, N: Notes<C, F>>(
     heap: Global,
     bus: &B,
@@ -46,10 +50,13 @@ pub fn whole_text<B: Bus, C: Prints, F: Tells + Copy, N: Notes<C, F>>(
     ensures room { let trace = B.machine.trace bus.now in
         let all = length trace.events + trace.lost in
         trace.lost ≢ 0 → all < 2 ^ 64 → IfErr result (λ e. wanted_room e ≡ all) }
+    // Where none was, no room is asked for.
+    ensures memory { let trace = B.machine.trace bus.now in
+        trace.lost ≡ 0 → IfErr result (λ e. wanted_room e ≡ 0) }
 {
     let lost = bus.lost();
     if lost > 0 {
         return Err(Unfinished::Room(bus.events().len().saturating_add(lost)));
     }
-    Ok(written(heap, bus, calls, outcomes, notes)?)
+    Ok(transcript_text(heap, bus, calls, outcomes, notes)?)
 }

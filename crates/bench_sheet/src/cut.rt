@@ -41,7 +41,7 @@ impl<'a> Iterator for Lines<'a> {
 }
 
 /// A line without its comment, which a `#` begins (docs/RULES.md, section 11).
-pub fn uncommented(line: &[u8]) -> &[u8]
+pub fn before_comment(line: &[u8]) -> &[u8]
     ensures { result.now ≡ part_before 35 line.now }
 {
     split_once(line, b'#').0

@@ -6,7 +6,7 @@ ghost use Rattle.bench_sheet.specs.Sheets.{with_marks, with_pile, with_call, wit
 ghost use Rattle.bench_sheet.specs.Sheets.{after_line, rest_order, rest_after, job_at_rest, job_of};
 ghost use Rattle.bench_sheet.specs.Sheets.{finish, Reads};
 
-use crate::cut::{Words, uncommented};
+use crate::cut::{Words, before_comment};
 use crate::{
     Calls, ChartName, Layers, LineError, Make, Mistake, PileCall, Sheet, SheetError, line,
 };
@@ -180,7 +180,7 @@ impl Draft {
     pub fn line(&mut self, line: &[u8]) -> Result<(), LineError>
         ensures { Gives (λ _. self.new) result (after_line self.old line.now) }
     {
-        let mut words = Words(uncommented(line));
+        let mut words = Words(before_comment(line));
         let Some(name) = words.next() else {
             return Ok(());
         };

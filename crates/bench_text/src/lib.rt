@@ -5,5 +5,5 @@ mod text;
 mod under;
 
 pub use notes::{Notes, Nothing};
-pub use text::{unmade, written};
+pub use text::{transcript_text, unmade_text};
 pub use under::Dues;

@@ -211,7 +211,7 @@ impl<B: Bus, C: Prints, F: Tells + Copy, N: Notes<C, F>> fmt::Display
 /// What the calls answered, what passed for each, and what `notes` tells under it. The calls of a
 /// pile are shown over the bus at its bottom, and as many as have both a call and an outcome. Fails
 /// only where there is no memory for the text (docs/RULES.md, section 12).
-pub fn written<B: Bus, C: Prints, F: Tells + Copy, N: Notes<C, F>>(
+pub fn transcript_text<B: Bus, C: Prints, F: Tells + Copy, N: Notes<C, F>>(
     heap: Global,
     bus: &B,
     calls: &[C],
@@ -235,7 +235,7 @@ pub fn written<B: Bus, C: Prints, F: Tells + Copy, N: Notes<C, F>>(
 
 /// The whole answer where no bus is made, for this reason. Fails only where there is no memory for
 /// the text (docs/RULES.md, section 12).
-pub fn unmade(heap: Global, refusal: Refusal<Failure>) -> Result<String, AllocError>
+pub fn unmade_text(heap: Global, refusal: Refusal<Failure>) -> Result<String, AllocError>
     ensures { IfOk result (λ t. string_bytes t ≡ unmade_text (reply_of failure_values refusal)) }
 {
     Ok(format!(in heap; "bus: {refusal}\n")?)
